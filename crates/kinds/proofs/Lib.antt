@@ -1,0 +1,4 @@
+pub mod Judging
+mod PlanParts
+mod ModeParts
+pub mod KindLaws
