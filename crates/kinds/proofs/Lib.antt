@@ -1,4 +1,4 @@
 pub mod Judging
-mod PlanParts
-mod ModeParts
+pub mod PlanParts
+pub mod ModeParts
 pub mod KindLaws
