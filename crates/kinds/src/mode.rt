@@ -4,6 +4,7 @@ ghost use Rattle.kinds.specs.Modes.{mode-number, mode-argument, mode-lawful, m
 use crate::value::Loggable;
 use crate::value::Value;
 use crate::value::WrongPart;
+use crate::value::judged;
 use crate::value::number_at;
 
 // Run by a fixed plan, actuated by detectors up to a longest green, or held until a last tick.
@@ -89,10 +90,7 @@ pub impl Loggable for Mode as ModeLoggable {
     }
 
     fn from_parts(numbers: &[u32]) -> Result<Mode, WrongPart> {
-        match first_wrong(numbers) {
-            Some(index) => Err(WrongPart { index }),
-            None => Ok(Self::rebuild(numbers)),
-        }
+        judged(first_wrong(numbers), Self::rebuild(numbers))
     }
 }
 

@@ -4,6 +4,7 @@ ghost use Rattle.kinds.specs.Plans.{plan-lawful, plan-parts, plan-built, plan-
 use crate::value::Loggable;
 use crate::value::Value;
 use crate::value::WrongPart;
+use crate::value::judged;
 use crate::value::number_at;
 
 // A plan may be written down that is not lawful.
@@ -63,10 +64,7 @@ pub impl Loggable for Plan as PlanLoggable {
     }
 
     fn from_parts(numbers: &[u32]) -> Result<Plan, WrongPart> {
-        match first_wrong(numbers) {
-            Some(index) => Err(WrongPart { index }),
-            None => Ok(Self::rebuild(numbers)),
-        }
+        judged(first_wrong(numbers), Self::rebuild(numbers))
     }
 }
 

@@ -1,16 +1,16 @@
 // Which numbers are taken back for a plan or a mode, and which part is the first wrong one.
 use kinds::mode::Mode;
+use kinds::mode::ModeDebug;
 use kinds::mode::ModeLoggable;
 use kinds::mode::ModePartialEq;
 use kinds::mode::ModeValue;
 use kinds::plan::Plan;
+use kinds::plan::PlanDebug;
 use kinds::plan::PlanLoggable;
+use kinds::plan::PlanPartialEq;
 use kinds::plan::PlanValue;
 use kinds::value::Loggable;
 use kinds::value::Value;
-use kinds::mode::ModeDebug;
-use kinds::plan::PlanDebug;
-use kinds::plan::PlanPartialEq;
 use std::test::*;
 
 fn plan_fault(numbers: &[u32]) -> Option<usize> {
@@ -49,7 +49,14 @@ fn plans_by_their_parts() -> Result<(), Fail> {
     for (numbers, expected) in table {
         check_eq(plan_fault(&numbers), expected)?;
         let [cycle, offset, green] = numbers;
-        check_eq(Plan { cycle, offset, green }.is_lawful(), expected.is_none())?;
+        check_eq(
+            Plan {
+                cycle,
+                offset,
+                green,
+            }.is_lawful(),
+            expected.is_none(),
+        )?;
     }
     Ok(())
 }
@@ -74,7 +81,11 @@ fn modes_by_their_parts() -> Result<(), Fail> {
     }
     check(Mode::Fixed.is_lawful())?;
     check(!Mode::Actuated { longest_green: 9 }.is_lawful())?;
-    check(!Mode::Held { last_tick: 268_435_455 }.is_lawful())
+    check(
+        !Mode::Held {
+            last_tick: 268_435_455,
+        }.is_lawful(),
+    )
 }
 
 // A number that is missing, or one too many, is wrong at its index; a wrong number before it comes first.
@@ -95,10 +106,23 @@ fn numbers_missing_or_too_many() -> Result<(), Fail> {
 #[test]
 fn values_come_back() -> Result<(), Fail> {
     let plan = Plan::from_parts(&[90, 10, 40]).ok().ok_or("a lawful plan")?;
-    check_eq(plan, Plan { cycle: 90, offset: 10, green: 40 })?;
-    check_eq((plan.part(0), plan.part(1), plan.part(2), plan.part(3)), (90, 10, 40, 0))?;
+    check_eq(
+        plan,
+        Plan {
+            cycle: 90,
+            offset: 10,
+            green: 40,
+        },
+    )?;
+    check_eq(
+        (plan.part(0), plan.part(1), plan.part(2), plan.part(3)),
+        (90, 10, 40, 0),
+    )?;
     let mode = Mode::from_parts(&[2, 77]).ok().ok_or("a lawful mode")?;
     check_eq(mode, Mode::Held { last_tick: 77 })?;
     check_eq((mode.part(0), mode.part(1), mode.part(2)), (2, 77, 0))?;
-    check_eq((Plan::WIDTH, Plan::MARK, Mode::WIDTH, Mode::MARK), (3, 4, 2, 5))
+    check_eq(
+        (Plan::WIDTH, Plan::MARK, Mode::WIDTH, Mode::MARK),
+        (3, 4, 2, 5),
+    )
 }

@@ -1,18 +1,18 @@
 // The reader on good, damaged and cut stretches.
 use kinds::mode::Mode;
+use kinds::mode::ModeDebug;
 use kinds::mode::ModeLoggable;
+use kinds::mode::ModePartialEq;
 use kinds::mode::ModeValue;
 use kinds::plan::Plan;
+use kinds::plan::PlanDebug;
 use kinds::plan::PlanLoggable;
+use kinds::plan::PlanPartialEq;
 use kinds::plan::PlanValue;
 use logs::entry::Entry;
 use logs::log::Log;
 use reader::logged::Logged;
 use reader::reader::Reader;
-use kinds::mode::ModeDebug;
-use kinds::mode::ModePartialEq;
-use kinds::plan::PlanDebug;
-use kinds::plan::PlanPartialEq;
 use std::test::*;
 use wordlog::log::WordLog;
 use wordlog::log::WordLogging;
@@ -67,7 +67,11 @@ fn whole_and_cut_stretches() -> Result<(), Fail> {
             3
         };
         let whole = length == 0 || length == 6 || length == 11 || length == 17;
-        let expected = if whole { None } else { Some((42, length, None)) };
+        let expected = if whole {
+            None
+        } else {
+            Some((42, length, None))
+        };
         check_eq(read_all(&CARD[0..length]), (entries, expected))?;
     }
     Ok(())
@@ -132,7 +136,10 @@ fn after_a_fault_it_stays() -> Result<(), Fail> {
     check_eq(reader.position(), 6)?;
     for _ in 0..3 {
         let fault = reader.next().err().ok_or("a fault")?;
-        check_eq((fault.number(), fault.index(), reader.position()), (43, 7, 6))?;
+        check_eq(
+            (fault.number(), fault.index(), reader.position()),
+            (43, 7, 6),
+        )?;
     }
     Ok(())
 }
@@ -145,7 +152,14 @@ fn entries_and_their_words() -> Result<(), Fail> {
     match first {
         Logged::Plan { entry, words } => {
             check_eq((entry.tick, entry.name, entry.stamp), (3, 5, 1))?;
-            check_eq(entry.value, Plan { cycle: 100, offset: 20, green: 50 })?;
+            check_eq(
+                entry.value,
+                Plan {
+                    cycle: 100,
+                    offset: 20,
+                    green: 50,
+                },
+            )?;
             check_eq(words.len(), 3)?;
         }
         Logged::Mode { entry: _, words: _ } => return Err(Fail::new("a plan entry")),
@@ -181,8 +195,32 @@ fn two_ticks(log: &WordLog<Plan>) -> Result<(Option<u32>, Option<u32>, bool), Fa
 fn a_log_is_read_back() -> Result<(), Fail> {
     let mut words = [0xffff_ffffu32; 13];
     let mut log = WordLog::<Plan>::open(&mut words);
-    let value = Plan { cycle: 240, offset: 239, green: 235 };
-    check(log.add(&Entry { tick: 268_435_454, name: 268_435_455, stamp: 268_435_455, value }).is_ok())?;
-    check(log.add(&Entry { tick: 0, name: 1, stamp: 0, value }).is_ok())?;
+    let value = Plan {
+        cycle: 240,
+        offset: 239,
+        green: 235,
+    };
+    check(
+        log.add(
+                &Entry {
+                    tick: 268_435_454,
+                    name: 268_435_455,
+                    stamp: 268_435_455,
+                    value,
+                },
+            )
+            .is_ok(),
+    )?;
+    check(
+        log.add(
+                &Entry {
+                    tick: 0,
+                    name: 1,
+                    stamp: 0,
+                    value,
+                },
+            )
+            .is_ok(),
+    )?;
     check_eq(two_ticks(&log)?, (Some(268_435_454), Some(0), true))
 }
