@@ -30,7 +30,8 @@ use Rattle.law.proofs.Coded.{In}
 use Rattle.law.proofs.Members.{all-by-in}
 use Rattle.law.proofs.Firsts as firsts
 use Rattle.law.proofs.Firsts.{Found, absent, first-is}
-use Rattle.law.proofs.Wells.{Well, well}
+use Rattle.law.proofs.Wells.{Well, well, stamp-limit}
+use Rattle.law.proofs.Singles.{told-first}
 use Rattle.law.proofs.Rooms.{bad, told-itself, present-here, own-tables, holds-enough, tick-room, refusal-fine, answer-fine}
 
 pub none-refused : (cs : List (Bool × Refusal)) → All (λ c. c .0 ≡ false) cs → refused-by cs None ≡ None
@@ -62,7 +63,7 @@ module _ {V : Type 0} (lawful : V → Bool) (m : Setup V) (f : Fits lawful m) (s
   can-tick lt none = none-refused (tick-checks s) (own-tables lawful m f s w, (lt-leb last-tick (s .site .time) lt, (none, (ap not (tick-room lawful m f s w), tt))))
 
   pub progress : Clock-progress s
-  progress = record { brought = all-by-in (λ i. is-due (s .site .delay) (s .site .time) i ≡ true → bring-refusal s (kind-of i) (sender-of i) (receiver-of i) ≡ None) (s .items) (λ i j _. can-bring i j); ticks = can-tick }
+  progress = record { brought = all-by-in (λ i. is-due (s .site .delay) (s .site .time) i ≡ true → bring-refusal s (kind-of i) (sender-of i) (receiver-of i) ≡ None) (s .items) (λ i j _. can-bring i j); itself = all-by-in (λ i. is-due (s .site .delay) (s .site .time) i ≡ true → first (is-told (kind-of i) (sender-of i) (receiver-of i)) (s .items) ≡ Some i) (s .items) (λ i j _. told-first lawful (m .size) (stamp-limit (s .site .under-way) (s .site .time)) (s .site .next-name) (s .site .under-way) (s .heads) (s .items) (w .housed) i j); ticks = can-tick }
 
   pub step-fine : {t : State V} {c : Call V} {a : Answer V} → Step lawful s c a t → (why : Refusal) → refusal-told a ≡ Some why → bad why ≡ false
   step-fine {t} {c} (refused r e p q) why h = refusal-fine lawful m f s w c why (e ∙ sym (ap refusal-told p) ∙ h)

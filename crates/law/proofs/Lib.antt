@@ -39,5 +39,6 @@ mod HousedTurns
 mod HousedCalls
 mod Wells
 mod Rooms
+mod Singles
 mod Clocking
 mod Laws

@@ -14,7 +14,7 @@ use Rattle.law.specs.Answers.{refusal-told}
 use Rattle.law.specs.Numbers.{last-tick}
 use Rattle.law.specs.Places.{first}
 use Rattle.law.specs.Heads.{Head}
-use Rattle.law.specs.Items.{Item, kind-of, sender-of, receiver-of, is-due}
+use Rattle.law.specs.Items.{Item, kind-of, sender-of, receiver-of, is-told, is-due}
 use Rattle.law.specs.Sites.{State}
 use Rattle.law.specs.Make.{Setup, make-refusal}
 use Rattle.law.specs.Bring.{bring-refusal}
@@ -68,9 +68,10 @@ pub record In-bounds {V : Type 0} (es : History V) (s : State V) : Type 0 where
 abbrev pub Always-in-bounds : Type 0 → Type 0
 Always-in-bounds V = (lawful : V → Bool) (m : Setup V) → Fits lawful m → Low-churn m → (es : History V) (s : State V) → Reached lawful m es s → In-bounds es s
 
--- each item that is due can be brought, and when none is due the clock moves on until the last tick
+-- each item that is due can be brought, and bringing takes that very item; when none is due the clock moves on until the last tick
 pub record Clock-progress {V : Type 0} (s : State V) : Type 0 where
   pub brought : All (λ i. is-due (s .site .delay) (s .site .time) i ≡ true → bring-refusal s (kind-of i) (sender-of i) (receiver-of i) ≡ None) (s .items)
+  pub itself : All (λ i. is-due (s .site .delay) (s .site .time) i ≡ true → first (is-told (kind-of i) (sender-of i) (receiver-of i)) (s .items) ≡ Some i) (s .items)
   pub ticks : s .site .time < last-tick → isSome (first (is-due (s .site .delay) (s .site .time)) (s .items)) ≡ false → tick-refusal s ≡ None
 
 abbrev pub Always-progress : Type 0 → Type 0
