@@ -1,0 +1,3 @@
+pub mod Scripts
+pub mod Openings
+pub mod CallTexts
