@@ -1,5 +1,5 @@
 mod Checks
-mod Making
+pub mod Making
 mod SampleRun
 mod Coded
 mod Base
@@ -41,4 +41,4 @@ mod Wells
 mod Rooms
 mod Singles
 mod Clocking
-mod Laws
+pub mod Laws
