@@ -1,9 +1,8 @@
-pub mod Bags
 pub mod Counts
-pub mod Found
-pub mod FoundItems
 pub mod HeldNames
-pub mod Originals
-pub mod Refilling
+pub mod Mailing
+pub mod OtherNames
+pub mod Placed
+pub mod Rewrites
 pub mod Searches
-pub mod SentItems
+pub mod Tables

@@ -12,9 +12,3 @@ place-from p i (x ∷ xs) = cond (p x) (Some i) (place-from p (i + 1) xs)
 
 abbrev pub place-of : {X : Type 0} → (X → Bool) → List X → Option ℕ
 place-of p xs = place-from p 0 xs
-
--- two places, where both are there
-abbrev pub both-places : Option ℕ → Option ℕ → Option (ℕ × ℕ)
-both-places None k = None
-both-places (Some i) None = None
-both-places (Some i) (Some k) = Some (i, k)

@@ -1,5 +1,6 @@
 pub mod FirstPlaces
 pub mod HeadPlaces
+pub mod Lacks
 pub mod MailPlaces
-pub mod Passes
+pub mod Others
 pub mod Turns

@@ -1,7 +1,7 @@
 // A place of a head, and what happens to one head.
 ghost use mathlib.Core.Path.{_≡_};
 ghost use mathlib.Core.Bool.{true, false, not};
-ghost use Prim.Native.Nat.{_≤_, min};
+ghost use Prim.Native.Nat.{_<_, _≤_};
 ghost use lib.Dec.{eqb};
 ghost use lib.ListN.{length, take};
 ghost use Rattle.std.specs.Options.{isSome};
@@ -13,8 +13,8 @@ ghost use Rattle.law.specs.Make.{original as original-of};
 ghost use Rattle.tables.specs.HeadPlaces.{head-of, held-of, copy-of, newer-stamp, has-room};
 use law::state::HeadState;
 
+pub mod filling;
 pub mod searches;
-pub mod tables;
 pub mod turning;
 
 // How many names a head can hold.
@@ -73,15 +73,8 @@ pub fn held_names<V: Copy>(h: Head<V>) -> usize
     ensures count { λ r. ⌜ r ≡ length (held-of h) ⌝ }
     ensures within { λ r. ⌜ r ≤ 64 ⌝ }
 {
-    at_most_all(h.held_count)
-}
-
-// The count, or that of all places for held names where it is higher.
-fn at_most_all(count: usize) -> usize
-    ensures { λ r. ⌜ r ≡ min count 64 ⌝ }
-{
-    if count < HELD_NAMES {
-        count
+    if h.held_count < HELD_NAMES {
+        h.held_count
     } else {
         HELD_NAMES
     }
@@ -101,18 +94,11 @@ fn contains(names: &[u32], name: u32) -> bool
     ensures { λ r. ⌜ r ≡ isSome (first (eqb name) (now (names .entry))) ⌝ }
 {
     for x in names {
-        if is_same(name, *x) {
+        if *x == name {
             return true;
         }
     }
     false
-}
-
-// Whether the names are the same.
-fn is_same(a: u32, b: u32) -> bool
-    ensures { λ r. ⌜ r ≡ eqb a b ⌝ }
-{
-    a == b
 }
 
 // The head when it holds this name too; one that is held already is not added again. A full head stays as it is.

@@ -1,12 +1,12 @@
 // A place of the mail, and the tests of the item that lies in it. An empty place passes none.
 ghost use mathlib.Core.Path.{_≡_};
+ghost use Rattle.std.specs.declared.option.Option.the-variants.{None};
 ghost use Rattle.law.specs.Heads.{holds-of};
 ghost use Rattle.law.specs.Items.{same-kind, is-told, is-due, is-reply-to, goes-with};
 ghost use Rattle.tables.specs.MailPlaces.{item-of, is-empty, addressed};
-ghost use Rattle.tables.specs.Passes.{without-item};
 use law::kind::MailKind;
 
-pub mod passes;
+pub mod clearing;
 pub mod searches;
 
 // An empty place has no kind, and then the rest means nothing.
@@ -26,7 +26,9 @@ pub fn is_empty<V: Copy>(p: MailPlace<V>) -> bool
 {
     match p.kind {
         None => true,
-        Some(_) => false,
+        Some(MailKind::Write) => false,
+        Some(MailKind::Inquiry) => false,
+        Some(MailKind::Reply) => false,
     }
 }
 
@@ -88,7 +90,7 @@ pub fn goes_with<V: Copy>(p: MailPlace<V>, name: u32) -> bool
 
 // The place when its item is gone.
 pub fn emptied<V: Copy>(p: MailPlace<V>) -> MailPlace<V>
-    ensures { λ r. ⌜ r ≡ without-item p ⌝ }
+    ensures { λ r. ⌜ item-of r ≡ None ⌝ }
 {
     MailPlace { kind: None, ..p }
 }

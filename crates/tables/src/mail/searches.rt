@@ -1,15 +1,13 @@
 // Searches over the mail.
 ghost use mathlib.Core.Path.{_≡_};
 ghost use lib.ListN.{length};
-ghost use Rattle.std.specs.shelf.Lists.{kept-by};
 ghost use Rattle.law.specs.Heads.{holds-of};
-ghost use Rattle.law.specs.Items.{is-told, is-due, is-reply-to};
+ghost use Rattle.law.specs.Items.{is-told, is-due};
 ghost use Rattle.tables.specs.FirstPlaces.{place-of};
 ghost use Rattle.tables.specs.MailPlaces.{item-of, items-of};
 use crate::mail::MailPlace;
 use crate::mail::is_due;
 use crate::mail::is_empty;
-use crate::mail::is_reply_to;
 use crate::mail::is_told;
 use law::kind::MailKind;
 
@@ -57,17 +55,4 @@ pub fn count<V: Copy>(mail: &[MailPlace<V>]) -> usize
         }
     }
     items
-}
-
-// How many REPLY items to this name are in the mail.
-pub fn count_replies_to<V: Copy>(mail: &[MailPlace<V>], name: u32) -> usize
-    ensures { λ r. ⌜ r ≡ length (kept-by (is-reply-to name) (items-of (now (mail .entry)))) ⌝ }
-{
-    let mut replies = 0;
-    for p in mail {
-        if is_reply_to(*p, name) {
-            replies += 1;
-        }
-    }
-    replies
 }

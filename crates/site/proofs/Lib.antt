@@ -1,0 +1,14 @@
+pub mod Bags
+pub mod Bringing
+pub mod Counting
+pub mod Dues
+pub mod Following
+pub mod Halves
+pub mod Looks
+pub mod Makes
+pub mod Readings
+pub mod Refusals
+pub mod Swaps
+pub mod TickChecks
+pub mod Turnings
+pub mod Writing
