@@ -1,9 +1,0 @@
-pub mod Amid
-pub mod Bringing
-pub mod Checks
-pub mod Counts
-pub mod Makes
-pub mod Reads
-pub mod States
-pub mod Swaps
-pub mod Writing
