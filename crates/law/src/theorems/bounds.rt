@@ -8,5 +8,10 @@ pub fn always_in_bounds<V: Value>() -> bool
     ensures holds { λ r. ⌜ r ≡ true ⌝ }
     ensures law { λ _. ⌜ Always-in-bounds V ⌝ }
 {
+    theorem::<V>();
     true
 }
+
+fn theorem<V: Value>()
+    ensures { λ _. ⌜ Always-in-bounds V ⌝ }
+{}

