@@ -1,4 +1,6 @@
 // What one head does at a call, and what it makes of one place of the mail.
+#![tactic(auto)]
+
 pub mod delivering;
 pub mod making;
 pub mod reading;

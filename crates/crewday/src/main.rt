@@ -1,4 +1,6 @@
 // A day of one head by its passes: it is swapped in, learns the plan, reads, writes and is swapped out.
+#![tactic(auto)]
+
 use crate::day::Day;
 use crate::stages::{finish, learn, read, swap_in, swap_out, write};
 use plans::Plan;

@@ -1,4 +1,6 @@
 // The edges of the rules, as one statement.
+#![tactic(auto)]
+
 ghost use Rattle.std.specs.Prelude.{◌≡◌, true};
 ghost use Rattle.edges.specs.Edges.{Edges, AllEdges};
 

@@ -82,7 +82,7 @@ module _ {V : Type 0} (book : ℕ → V) where
       go false = record { copy = r.copy; best = r.best }
   by_received (reply a b t c) q h r = record { copy = r.copy; best = by_newer h.best c r.best q }
 
-  by_answered : (time : ℕ) (h : Head V) (i : ItemMut V) → ByHead book h → ByItems book (answered time h i)
+  by_answered : (time : ℕ) (h : Head V) (i : Item V) → ByHead book h → ByItems book (answered time h i)
   by_answered time h (write a b t c) r j k = elim k [ ]
   by_answered time h (inquiry a b t) r j k = go (is_active h.state) k
     where
@@ -155,7 +155,7 @@ module _ {V : Type 0} (book : ℕ → V) where
   by_some : (items mail : List (Item V)) → ByItems book items → Some items ≡ Some mail → ByItems book mail
   by_some items mail b e = let q : items ≡ mail = cc in subst (ByItems book) q b
 
-  by_turn_mail : (places now : ℕ) (before : List (Head V)) (h : Head V) (after : List (Head V)) (items mail : List (ItemMut V)) (u : Turn V) → ByTurn u → ByItems book items → turn_mail places now before h after items u ≡ Some mail → ByItems book mail
+  by_turn_mail : (places now : ℕ) (before : List (Head V)) (h : Head V) (after : List (Head V)) (items mail : List (Item V)) (u : Turn V) → ByTurn u → ByItems book items → turn_mail places now before h after items u ≡ Some mail → ByItems book mail
   by_turn_mail places now before h after items mail rests q b e = by_some items mail b e
   by_turn_mail places now before h after items mail inquires q b e = by_put places items (to_each (λ x. inquiry h.name x now) (before ++ after)) mail b (by_map (λ g. inquiry h.name g.name now) (λ g. tt) (before ++ after)) e
   by_turn_mail places now before h after items mail (activates c) q b e =

@@ -15,7 +15,7 @@ use Rattle.law.proofs.Weights.{item_weight, write_to, received_weight, answered_
 use Rattle.law.proofs.Housed.{Here, HeadGood, ItemGood, Housed, newer_good, newer_some, here_change, sender_asks, changed}
 
 module _ {V : Type 0} (h : Head V) where
-  pub received_name : (i : ItemMut V) → (received i h).name ≡ h.name
+  pub received_name : (i : Item V) → (received i h).name ≡ h.name
   received_name (write a b t c) = refl
   received_name (inquiry a b t) = go (is_active h.state)
     where
@@ -34,7 +34,7 @@ module _ {V : Type 0} (h : Head V) where
   received_state (reply a b t c) = refl
 
   -- only an INQUIRY is answered
-  answered_each : (P : ItemMut V → Type 0) (time : ℕ) (i : ItemMut V) → ((a b t : ℕ) → i ≡ inquiry a b t → P (reply h.name a time h.copy)) → (j : ItemMut V) → In j (answered time h i) → P j
+  answered_each : (P : Item V → Type 0) (time : ℕ) (i : Item V) → ((a b t : ℕ) → i ≡ inquiry a b t → P (reply h.name a time h.copy)) → (j : Item V) → In j (answered time h i) → P j
   answered_each P time (write a b t c) f j x = elim x [ ]
   answered_each P time (inquiry a b t) f j x = go (is_active h.state) x
     where
@@ -54,7 +54,7 @@ module _ {V : Type 0} (h : Head V) where
   received_good lawful limit next way (reply a b t c) g k = record { some = k.some; below = k.below; copy = k.copy; best = newer_good lawful limit h.best c k.best g; acts = k.acts }
 
 module _ {V : Type 0} (lawful : V → Bool) (n limit next time : ℕ) (way : Option UnderWay) where
-  brought_housed : (us vs : List (Head V)) (h : Head V) (xs ys : List (ItemMut V)) (i : ItemMut V) (b : ℕ) → Housed lawful n limit next way (us ++ h ∷ vs) (xs ++ i ∷ ys) → h.name ≡ b → receiver_of i ≡ b → Housed lawful n limit next way (us ++ received i h ∷ vs) ((xs ++ ys) ++ answered time h i)
+  brought_housed : (us vs : List (Head V)) (h : Head V) (xs ys : List (Item V)) (i : Item V) (b : ℕ) → Housed lawful n limit next way (us ++ h ∷ vs) (xs ++ i ∷ ys) → h.name ≡ b → receiver_of i ≡ b → Housed lawful n limit next way (us ++ received i h ∷ vs) ((xs ++ ys) ++ answered time h i)
   brought_housed us vs h xs ys i b k e f =
       changed lawful n limit limit next way way us vs h (received i h) (xs ++ i ∷ ys) ((xs ++ ys) ++ answered time h i) k (received_name h i) (omega arith)
       (λ p. sym (received_state h i) ∙ p)
@@ -89,7 +89,7 @@ module _ {V : Type 0} (lawful : V → Bool) (n limit next time : ℕ) (way : Opt
           let s = sender_asks lawful n limit next way (us ++ h ∷ vs) (xs ++ i ∷ ys) k {a = a} {b = c} {t = t} (in_mid i xs ys p) in
           record { head = s.head; there_is = s.there_is; is = s.is }
 
-  pub bring_housed : (heads : List (Head V)) (items : List (ItemMut V)) (kind : MailKind) (a b : ℕ) → Housed lawful n limit next way heads items → {oi : Option (ItemMut V)} {oh : Option (Head V)} → Found (is_told kind a b) items oi → Found (is_named b) heads oh → is_some oi ≡ true → is_some oh ≡ true → Housed lawful n limit next way (bring_heads b oi heads) (all_but_first (is_told kind a b) items ++ bring_answers time oh oi)
+  pub bring_housed : (heads : List (Head V)) (items : List (Item V)) (kind : MailKind) (a b : ℕ) → Housed lawful n limit next way heads items → {oi : Option (Item V)} {oh : Option (Head V)} → Found (is_told kind a b) items oi → Found (is_named b) heads oh → is_some oi ≡ true → is_some oh ≡ true → Housed lawful n limit next way (bring_heads b oi heads) (all_but_first (is_told kind a b) items ++ bring_answers time oh oi)
   bring_housed heads items kind a b k (absent f) g p q = absurd (false≢true p)
   bring_housed heads items kind a b k (present i si) (absent g) p q = absurd (false≢true q)
   bring_housed heads items kind a b k (present i si) (present h sh) p q =

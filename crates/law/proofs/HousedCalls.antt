@@ -52,7 +52,7 @@ some_map {X} p f e (x ∷ xs) = rw (e x) (go (p x) (some_map p f e xs))
     go true r = refl
     go false r = r
 
-module _ {V : Type 0} (lawful : V → Bool) (n limit y : ℕ) (way : Option UnderWay) (heads : List (Head V)) (items : List (ItemMut V)) (k : Housed lawful n limit y way heads items) (x time free : ℕ) (us vs : List (Head V)) (h : Head V) (whole : map (forgetting x) heads ≡ us ++ h ∷ vs) (e : h.name ≡ x) where
+module _ {V : Type 0} (lawful : V → Bool) (n limit y : ℕ) (way : Option UnderWay) (heads : List (Head V)) (items : List (Item V)) (k : Housed lawful n limit y way heads items) (x time free : ℕ) (us vs : List (Head V)) (h : Head V) (whole : map (forgetting x) heads ≡ us ++ h ∷ vs) (e : h.name ≡ x) where
   stays : {g : Head V} → In g heads → (g.name ≡ x → ⊥) → In (forgetting x g) (us ++ newcomer y time free ∷ vs)
   stays {g} i ne = elim (in_less h us vs (subst (λ z. In (forgetting x g) z) whole (in_map (forgetting x) i))) [
     | inl p ↦ absurd (ne (sym (ap (λ z. z.name) p) ∙ e))
@@ -134,11 +134,11 @@ module _ {V : Type 0} (lawful : V → Bool) (n limit y : ℕ) (way : Option Unde
   }
 
 -- write
-module _ {V : Type 0} (lawful : V → Bool) (n time next : ℕ) (us vs : List (Head V)) (h : Head V) (items : List (ItemMut V)) (k : Housed lawful n time next None (us ++ h ∷ vs) items) (c : Copy V) (cg : Good lawful (time + 1) (Some c)) where
+module _ {V : Type 0} (lawful : V → Bool) (n time next : ℕ) (us vs : List (Head V)) (h : Head V) (items : List (Item V)) (k : Housed lawful n time next None (us ++ h ∷ vs) items) (c : Copy V) (cg : Good lawful (time + 1) (Some c)) where
   abbrev new_way : Option UnderWay
   new_way = Some (record { writer = h.name; begin = time })
 
-  abbrev new_mail : List (ItemMut V)
+  abbrev new_mail : List (Item V)
   new_mail = items ++ to_each (λ b. write h.name b time (Some c)) (us ++ vs)
 
   no_writes : (b : ℕ) (i : Item V) → ItemGood lawful time None i → write_to b i ≡ 0
@@ -151,7 +151,7 @@ module _ {V : Type 0} (lawful : V → Bool) (n time next : ℕ) (us vs : List (H
   still_good (inquiry a d t) g = tt
   still_good (reply a d t o) g = good_more lawful time (time + 1) (omega arith) o g
 
-  each : (P : ItemMut V → Type 0) → ((i : ItemMut V) → In i items → P i) → ((g : Head V) → In g (us ++ vs) → P (write h.name g.name time (Some c))) → (i : ItemMut V) → In i new_mail → P i
+  each : (P : Item V → Type 0) → ((i : Item V) → In i items → P i) → ((g : Head V) → In g (us ++ vs) → P (write h.name g.name time (Some c))) → (i : Item V) → In i new_mail → P i
   each P f g i j = elim (in_either items (to_each (λ b. write h.name b time (Some c)) (us ++ vs)) j) [
     | inl x ↦ f i x
     | inr x ↦ let (y, z, e) = map_in (λ (g : Head V). write h.name g.name time (Some c)) (us ++ vs) x in subst P e (g y z)

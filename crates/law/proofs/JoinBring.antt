@@ -93,7 +93,7 @@ module _ {V : Type 0} (m : Setup V) (F : ℕ) (s : State V) (pos : 0 < m.delay) 
         subst₂ Kept (heads_eq (holding a h)) rest_eq
         (held_inv m.delay m.swap_limit n pos W J.inv (code_head n h) coded_h (map code_item xs) (map code_item ys) a t (mail_eq (inquiry a h.name t) e) (held_with a h) (held_keeps a h) (held_has a h) (not_active h.state p))
 
-    received_inv : (i : ItemMut V) → receiver_of i ≡ h.name → s.items ≡ xs ++ i ∷ ys → Kept (map (code_head n) (us ++ received i h ∷ vs)) (map code_item ((xs ++ ys) ++ answered T h i))
+    received_inv : (i : Item V) → receiver_of i ≡ h.name → s.items ≡ xs ++ i ∷ ys → Kept (map (code_head n) (us ++ received i h ∷ vs)) (map code_item ((xs ++ ys) ++ answered T h i))
     received_inv (write a b t c) q e =
         subst₂ Kept (ap (λ z. map (code.put h.name (code.recopied z (code_head n h))) W.heads) (sym (code_newer h.copy c)) ∙ heads_eq (with_copy (newer h.copy c) h)) rest_eq
         (write_inv m.delay m.swap_limit n pos W J.inv (code_head n h) coded_h (map code_item xs) (map code_item ys) (code_copy c) a t (mail_eq (write a h.name t c) (e ∙ ap (λ z. xs ++ write a z t c ∷ ys) q)))
@@ -117,7 +117,7 @@ module _ {V : Type 0} (m : Setup V) (F : ℕ) (s : State V) (pos : 0 < m.delay) 
     abbrev brought : Item V → State V
     brought i = record { site = s.site; heads = us ++ received i h ∷ vs; places = s.places; items = (xs ++ ys) ++ answered T h i; log = s.log }
 
-    brought_joined : (i : ItemMut V) → receiver_of i ≡ h.name → s.items ≡ xs ++ i ∷ ys → Joined m F [] (brought i)
+    brought_joined : (i : Item V) → receiver_of i ≡ h.name → s.items ≡ xs ++ i ∷ ys → Joined m F [] (brought i)
     brought_joined i q e = record {
       ghost = J.ghost;
       fin_is = J.fin_is;

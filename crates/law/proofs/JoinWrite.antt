@@ -36,7 +36,7 @@ module _ {V : Type 0} (m : Setup V) (F : ℕ) (s : State V) (pos : 0 < m.delay) 
   abbrev N : Copy V
   N = new_copy s x v
 
-  module _ (h : Head V) (sp : Split (is_named x) s.heads h) (c : Copy V) (act : h.state ≡ Active) (named : copy_named x s.heads ≡ Some c) (has : h.copy ≡ Some c) (idle : g.fin ≡ g.top) (items : List (ItemMut V)) (put_in : write_mail s x v ≡ Some items) where
+  module _ (h : Head V) (sp : Split (is_named x) s.heads h) (c : Copy V) (act : h.state ≡ Active) (named : copy_named x s.heads ≡ Some c) (has : h.copy ≡ Some c) (idle : g.fin ≡ g.top) (items : List (Item V)) (put_in : write_mail s x v ≡ Some items) where
     name_is : h.name ≡ x
     name_is = eqb-true h.name x sp.passes
 

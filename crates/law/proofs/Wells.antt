@@ -78,7 +78,7 @@ same_well lawful m s t q w = record {
   housed = rw (q.site, q.heads) (shuffled_housed lawful m.size (stamp_limit t.site.under_way t.site.time) t.site.next_name t.site.under_way t.heads s.items t.items q.items w.housed);
 }
 
-module _ {V : Type 0} (lawful : V → Bool) (n limit y : ℕ) (way : Option UnderWay) (heads : List (Head V)) (items : List (ItemMut V)) (k : Housed lawful n limit y way heads items) where
+module _ {V : Type 0} (lawful : V → Bool) (n limit y : ℕ) (way : Option UnderWay) (heads : List (Head V)) (items : List (Item V)) (k : Housed lawful n limit y way heads items) where
   swapped_housed : (x time free : ℕ) → 1 ≤ y → {o : Option (Head V)} → Found (is_named x) (map (forgetting x) heads) o → is_some o ≡ true → Housed lawful n limit (y + 1) way (change_first (is_named x) (λ _. newcomer y time free) (map (forgetting x) heads)) (dropping (goes_with x) items)
   swapped_housed x time free p (absent f) q = absurd (false≢true q)
   swapped_housed x time free p (firsts.present h sp) q = rw (sp.changed (λ _. newcomer y time free)) (swap_housed lawful n limit y way heads items k x time free sp.us sp.vs h sp.whole (eqb-true h.name x sp.passes) p)

@@ -1,4 +1,6 @@
 // Tests of the kinds, the logs, the reader, cards and lines, as tables.
+#![tactic(auto)]
+
 #[cfg(test)]
 mod card_tests;
 #[cfg(test)]

@@ -1,4 +1,6 @@
 // The mode of a junction: how it is run.
+#![tactic(auto)]
+
 ghost use Rattle.std.specs.Prelude.{◌≡◌};
 ghost use Rattle.modes.specs.Modes.{mode_number, mode_argument, mode_lawful, mode_parts, mode_built, mode_wrong, case_ok, argument_ok};
 ghost use Rattle.std.proofs.Common.{rules};

@@ -1,4 +1,6 @@
 // Calls by pass. A head has one pass at a time, which says what it may ask; a pass is used up by what changes it.
+#![tactic(auto)]
+
 pub mod joining;
 pub mod membership;
 pub mod writing;

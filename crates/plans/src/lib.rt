@@ -1,4 +1,6 @@
 // The plan of a junction, in seconds.
+#![tactic(auto)]
+
 ghost use Rattle.std.specs.Prelude.{◌≡◌};
 ghost use Rattle.plans.specs.Plans.{plan_lawful, plan_parts, plan_built, plan_wrong, cycle_ok, offset_ok, green_ok};
 ghost use Rattle.std.proofs.Common.{rules};

@@ -29,7 +29,7 @@ received (inquiry a b t) h = cond (is_active h.state) h (holding a h)
 received (reply a b t c) h = with_best (newer h.best c) h
 
 -- what the head that receives it sends: an active head replies to an INQUIRY with its copy
-abbrev pub answered : {V : Type 0} → ℕ → Head V → ItemMut V → List (ItemMut V)
+abbrev pub answered : {V : Type 0} → ℕ → Head V → Item V → List (Item V)
 answered time h (write a b t c) = []
 answered time h (inquiry a b t) = cond (is_active h.state) (reply h.name a time h.copy ∷ []) []
 answered time h (reply a b t c) = []

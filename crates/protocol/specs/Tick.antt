@@ -53,7 +53,7 @@ activations delay now heads = length (filter (λ h. is_activation (turn delay no
 
 -- what the turn of h makes of the mail: an INQUIRY to every other head; or the REPLY items to h are dropped, and then h replies to each name that it holds whose head is present and inquiring.
 -- The heads before h have turned, those after it have not
-abbrev pub turn_mail : {V : Type 0} → ℕ → ℕ → List (Head V) → Head V → List (Head V) → List (ItemMut V) → Turn V → Option (List (ItemMut V))
+abbrev pub turn_mail : {V : Type 0} → ℕ → ℕ → List (Head V) → Head V → List (Head V) → List (Item V) → Turn V → Option (List (Item V))
 turn_mail places now before h after items rests = Some items
 turn_mail places now before h after items inquires = put places items (to_each (λ b. inquiry h.name b now) (before ++ after))
 turn_mail places now before h after items (activates c) =

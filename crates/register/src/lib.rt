@@ -1,4 +1,6 @@
 // The register of a site: it is made, and then one call after another is performed. The law stands on the contracts of these two.
+#![tactic(auto)]
+
 ghost use Rattle.std.specs.Prelude.{◌≡◌, true, length, is_some, is_err, Ok};
 ghost use Rattle.logs.specs.Meanings.{Meaning};
 ghost use Rattle.protocol.specs.Answers.{refusal_told};

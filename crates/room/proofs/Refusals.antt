@@ -16,15 +16,15 @@ use Rattle.room.specs.Checks.{mail_due, finds_room, checks}
 use Rattle.room.specs.Counting.{place_due}
 
 -- a place holds an item that passes where an item passes
-placed_some : {V : Type 0} (t : ItemMut V → Bool) (ps : List (MailPlace V)) (i : ℕ) → is_some (place_from (λ p. holds_of t (item_of p)) i ps) ≡ is_some (first t (items_of ps))
+placed_some : {V : Type 0} (t : Item V → Bool) (ps : List (MailPlace V)) (i : ℕ) → is_some (place_from (λ p. holds_of t (item_of p)) i ps) ≡ is_some (first t (items_of ps))
 placed_some {V} t [] i = refl
 placed_some {V} t (p ∷ ps) i = go (item_of p) (placed_some t ps (i + 1))
   where
-    pick : (b : Bool) (x : ItemMut V) → is_some (place_from (λ p. holds_of t (item_of p)) (i + 1) ps) ≡ is_some (first t (items_of ps)) → is_some (cond b (Some i) (place_from (λ p. holds_of t (item_of p)) (i + 1) ps)) ≡ is_some (cond b (Some x) (first t (items_of ps)))
+    pick : (b : Bool) (x : Item V) → is_some (place_from (λ p. holds_of t (item_of p)) (i + 1) ps) ≡ is_some (first t (items_of ps)) → is_some (cond b (Some i) (place_from (λ p. holds_of t (item_of p)) (i + 1) ps)) ≡ is_some (cond b (Some x) (first t (items_of ps)))
     pick true x r = refl
     pick false x r = r
 
-    go : (o : Option (ItemMut V)) → is_some (place_from (λ p. holds_of t (item_of p)) (i + 1) ps) ≡ is_some (first t (items_of ps)) → is_some (cond (holds_of t o) (Some i) (place_from (λ p. holds_of t (item_of p)) (i + 1) ps)) ≡ is_some (first t (with_item o (items_of ps)))
+    go : (o : Option (Item V)) → is_some (place_from (λ p. holds_of t (item_of p)) (i + 1) ps) ≡ is_some (first t (items_of ps)) → is_some (cond (holds_of t o) (Some i) (place_from (λ p. holds_of t (item_of p)) (i + 1) ps)) ≡ is_some (first t (with_item o (items_of ps)))
     go None r = r
     go (Some x) r = pick (t x) x r
 

@@ -1,4 +1,6 @@
 // A site and its calls as words.
+#![tactic(auto)]
+
 ghost use Rattle.std.specs.Prelude.{◌≡◌, ◌+◌, ◌<◌, length};
 ghost use Rattle.protocol.specs.declared.call.Call.TheVariants.{Write as WriteCall};
 ghost use Rattle.script.specs.Scripts.{number_at, has_kind, bad_from, plan_at, unless, bring_at, call_at, call_size, opening_of, next_call, next_index};

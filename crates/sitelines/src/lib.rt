@@ -1,4 +1,6 @@
 // The lines that are printed of a site's calls.
+#![tactic(auto)]
+
 ghost use Rattle.std.specs.Prelude.{◌≡◌, IfOk, string_bytes};
 ghost use Rattle.sitelines.specs.CallTexts.{parts_text, kind_text, call_text, answer_text, line_text, make_text, bad_word_text};
 

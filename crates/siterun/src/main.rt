@@ -1,4 +1,6 @@
 // Runs a site of plans by a list of calls in words, and prints a line for each call.
+#![tactic(auto)]
+
 use card::{bytes_of, fill_words, left_over};
 use plans::Plan;
 use protocol::state::HeadState;

@@ -1,4 +1,6 @@
 // Tests of the site's calls, as tables.
+#![tactic(auto)]
+
 #[cfg(test)]
 mod foreign_tests;
 #[cfg(test)]

@@ -1,4 +1,6 @@
 // The theorems, each the contract of a function.
+#![tactic(auto)]
+
 pub mod bounds;
 pub mod edges;
 pub mod limit;

@@ -13,6 +13,6 @@ returns g c =
       made = c.make.ensures.made log;
       kept = c.make.ensures.kept;
       law = λ site e.
-          let d = subst (λ r. Makes g.row.V-Value.lawful m r c.make.new.heads c.make.new.mail) e (c.make.ensures.made log) in
-          begun g.row.V-Value.lawful m (state_of site c.make.new.heads c.make.new.mail log) d.0 d.1;
+          let d = subst (λ r. Makes g.V.Value.lawful m r c.make.new.heads c.make.new.mail) e (c.make.ensures.made log) in
+          begun g.V.Value.lawful m (state_of site c.make.new.heads c.make.new.mail log) d.0 d.1;
     }

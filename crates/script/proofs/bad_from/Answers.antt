@@ -8,11 +8,11 @@ loop-i-init c = ap (bad_from c.args.words.now c.args.wanted c.args.from) (omega 
 
 pub loop-i-preserved : goal.loop-i-preserved
 loop-i-preserved c =
-    sym (good_word c.args.words.now c.args.wanted c.loop-i.i (c.args.from + c.args.count) c.loop-i-test.true (sym c.if-not-is-kind.ensures)) ∙ c.loop-i.invariant
+    sym (good_word c.args.words.now c.args.wanted c.loop-i.i (c.args.from + c.args.count) c.loop-i-test.true (sym c.if-not-is_kind.ensures)) ∙ c.loop-i.invariant
 
-pub returns-then-not-is-kind : goal.returns-then-not-is-kind
-returns-then-not-is-kind c =
-    sym (bad_word c.args.words.now c.args.wanted c.loop-i.i (c.args.from + c.args.count) c.loop-i-test.true (sym c.if-not-is-kind.ensures)) ∙ c.loop-i.invariant
+pub returns-then-not-is_kind : goal.returns-then-not-is_kind
+returns-then-not-is_kind c =
+    sym (bad_word c.args.words.now c.args.wanted c.loop-i.i (c.args.from + c.args.count) c.loop-i-test.true (sym c.if-not-is_kind.ensures)) ∙ c.loop-i.invariant
 
 pub returns : goal.returns
 returns c = sym (no_word c.args.words.now c.args.wanted c.loop-i.i (c.args.from + c.args.count) c.loop-i-test.false) ∙ c.loop-i.invariant

@@ -11,14 +11,14 @@ returns g c =
     let hs = c.args.heads.now in
     let i = c.args.i in
     let h = head_of c.args.h in
-    let told = c.turn-at-turn.ensures in
-    let left : heads_of c.put-head.new.heads ≡ set (heads_of hs) i (head_of c.turned-after.result) = ap heads_of c.put-head.ensures ∙ map-set head_of hs i c.turned-after.result in
+    let told = c.turn_at-turn.ensures in
+    let left : heads_of c.put_head.new.heads ≡ set (heads_of hs) i (head_of c.turned-after.result) = ap heads_of c.put_head.ensures ∙ map-set head_of hs i c.turned-after.result in
     record {
       heads = left ∙ ap (set (heads_of hs) i) (c.turned-after.ensures ∙ ap (λ u. turned_by c.args.time u h) told);
-      mail = λ items few e. c.send-in-turn.ensures items (omega arith)
-          (ap (λ ks. turn_mail (length c.args.mail.now) c.args.time (take i ks) h (drop (suc i) ks) (items_of c.args.mail.now) (turn_of c.turn-at-turn.result)) left
-          ∙ ap (λ bs. turn_mail (length c.args.mail.now) c.args.time bs h (drop (suc i) (set (heads_of hs) i (head_of c.turned-after.result))) (items_of c.args.mail.now) (turn_of c.turn-at-turn.result)) (take-set-le i (heads_of hs) i (head_of c.turned-after.result) (omega arith))
-          ∙ ap (λ bs. turn_mail (length c.args.mail.now) c.args.time (take i (heads_of hs)) h bs (items_of c.args.mail.now) (turn_of c.turn-at-turn.result)) (drop-set-lt (suc i) (heads_of hs) i (head_of c.turned-after.result) (omega arith))
+      mail = λ items few e. c.send_in_turn.ensures items (omega arith)
+          (ap (λ ks. turn_mail (length c.args.mail.now) c.args.time (take i ks) h (drop (suc i) ks) (items_of c.args.mail.now) (turn_of c.turn_at-turn.result)) left
+          ∙ ap (λ bs. turn_mail (length c.args.mail.now) c.args.time bs h (drop (suc i) (set (heads_of hs) i (head_of c.turned-after.result))) (items_of c.args.mail.now) (turn_of c.turn_at-turn.result)) (take-set-le i (heads_of hs) i (head_of c.turned-after.result) (omega arith))
+          ∙ ap (λ bs. turn_mail (length c.args.mail.now) c.args.time (take i (heads_of hs)) h bs (items_of c.args.mail.now) (turn_of c.turn_at-turn.result)) (drop-set-lt (suc i) (heads_of hs) i (head_of c.turned-after.result) (omega arith))
           ∙ ap (λ u. turn_mail (length c.args.mail.now) c.args.time (take i (heads_of hs)) h (drop (suc i) (heads_of hs)) (items_of c.args.mail.now) u) told
           ∙ e);
     }

@@ -23,9 +23,9 @@ loop-i-preserved g c =
     let inv = c.loop-i.invariant.0 in
     let l : i < length H = omega (arith, length-map c.args.heads.now head_of, c.loop-i-test.true) in
     let r : h ≡ get_or K i h = ap head_of c.index-heads-i.is ∙ sym (get_or-map head_of c.loop-i.heads i c.index-heads-i.result h (omega arith)) in (
-      c.take-turn.ensures.heads ∙ map_over_more (turned D T) H K i h l inv r,
-      λ few. going_more D T H places (items_of c.args.mail.now) i l h (amid_here D T H i l K inv h r) is (items_of c.take-turn.new.mail) (c.loop-i.invariant.1 few)
-          (λ made e. c.take-turn.ensures.mail made (omega arith)
+      c.take_turn.ensures.heads ∙ map_over_more (turned D T) H K i h l inv r,
+      λ few. going_more D T H places (items_of c.args.mail.now) i l h (amid_here D T H i l K inv h r) is (items_of c.take_turn.new.mail) (c.loop-i.invariant.1 few)
+          (λ made e. c.take_turn.ensures.mail made (omega arith)
           (ap (λ n. turn_mail n T (take i K) h (drop (suc i) K) is (turn D T h)) c.loop-i.auto.mail
           ∙ ap (λ bs. turn_mail places T bs h (drop (suc i) K) is (turn D T h)) (amid_before D T H i l K inv)
           ∙ ap (λ bs. turn_mail places T (before D T H i) h bs is (turn D T h)) (amid_after D T H i l K inv)

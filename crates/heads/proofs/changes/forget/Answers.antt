@@ -10,11 +10,11 @@ returns g c =
     let k = head_of c.args.h in
     let n = c.args.h.held_count in
     let xs = c.args.h.held in
-    let m = c.held-names-count.result in
-    let r = c.keep-others-kept.result in
-    let ys = c.keep-others-kept.new.names in
+    let m = c.held_names-count.result in
+    let r = c.keep_others-kept.result in
+    let ys = c.keep_others-kept.new.names in
     let l : r ≤ length ys = omega arith in
     c.with_held.ensures
     ∙ ap (λ zs. with_held zs k) (take-append-le r ys (drop m xs) l
-    ∙ c.keep-others-kept.ensures.kept
-    ∙ ap (filter (others c.args.name)) (ap (λ j. take j xs) c.held-names-count.ensures.count ∙ take_held n xs))
+    ∙ c.keep_others-kept.ensures.kept
+    ∙ ap (filter (others c.args.name)) (ap (λ j. take j xs) c.held_names-count.ensures.count ∙ take_held n xs))

@@ -7,4 +7,4 @@ returns g c =
     let n = c.args.h.held_count in
     let xs = c.args.h.held in
     let z : length xs ≡ 64 = omega arith in
-    record { count = c.at-most-all.ensures ∙ sym (length-take n xs ∙ ap (min n) z); within = omega arith }
+    record { count = c.at_most_all.ensures ∙ sym (length-take n xs ∙ ap (min n) z); within = omega arith }

@@ -7,4 +7,4 @@ pub returns : goal.returns
 returns g c =
     let xs = c.args.h.held in
     c.contains.ensures
-    ∙ ap (λ ys. is_some (first (eqb c.args.name) ys)) (ap (λ n. take n xs) c.held-names-count.ensures.count ∙ take_held c.args.h.held_count xs)
+    ∙ ap (λ ys. is_some (first (eqb c.args.name) ys)) (ap (λ n. take n xs) c.held_names-count.ensures.count ∙ take_held c.args.h.held_count xs)

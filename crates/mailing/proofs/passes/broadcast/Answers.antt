@@ -10,23 +10,23 @@ use Rattle.mailing.proofs.passes.broadcast.Goals as goal
 
 pub loop-k-preserved : goal.loop-k-preserved
 loop-k-preserved g c =
-    let n = c.count-others-wanted.result in
-    let xs = c.empty-places-found.result.0 in
+    let n = c.count_others-wanted.result in
+    let xs = c.empty_places-found.result.0 in
     let is = take n xs in
     let names = names_but c.args.but c.args.heads.now in
     let ps = c.loop-k.mail in
     let k = c.loop-k.k in
     let long : length is ≡ n = length-take-le n xs (omega arith) in
     let h : k < length is = omega arith in
-    let l : k < length names = omega (arith, c.count-others-wanted.ensures) in
+    let l : k < length names = omega (arith, c.count_others-wanted.ensures) in
     ap (placed c.args.item (drop (k + 1) is) (drop (k + 1) names)) (c.put_at.ensures ∙ ap (set ps (get_or xs k 0)) c.to.ensures)
-    ∙ placed_more c.args.item is names ps k (get_or xs k 0) c.other-name-name.result h l (sym (get_or-take n xs k 0 (omega arith))) c.other-name-name.ensures
+    ∙ placed_more c.args.item is names ps k (get_or xs k 0) c.other_name-name.result h l (sym (get_or-take n xs k 0 (omega arith))) c.other_name-name.ensures
     ∙ c.loop-k.invariant
 
 pub returns-then-wanted-gt-RECEIVERS : goal.returns-then-wanted-gt-RECEIVERS
 returns-then-wanted-gt-RECEIVERS g c =
     let e = length_but c.args.but c.args.heads.now in
-    record { room = λ h. absurd (omega (arith, e, c.count-others-wanted.ensures)); sent = λ e. absurd (false≢true e); refused = λ _. refl }
+    record { room = λ h. absurd (omega (arith, e, c.count_others-wanted.ensures)); sent = λ e. absurd (false≢true e); refused = λ _. refl }
 
 pub returns-then-found-wanted : goal.returns-then-found-wanted
 returns-then-found-wanted g c =
@@ -34,7 +34,7 @@ returns-then-found-wanted g c =
     let names = names_but c.args.but c.args.heads.now in
     let e = empty_or_full 0 ps in
     record {
-      room = λ _. sym (lt-leb (length (items_of ps) + length names) (length ps) (omega (arith, e, c.count-others-wanted.ensures, c.empty-places-found.ensures.count)));
+      room = λ _. sym (lt-leb (length (items_of ps) + length names) (length ps) (omega (arith, e, c.count_others-wanted.ensures, c.empty_places-found.ensures.count)));
       sent = λ e. absurd (false≢true e);
       refused = λ _. refl;
     }
@@ -43,16 +43,16 @@ pub returns : goal.returns
 returns g c =
     let ps = c.args.mail.now in
     let qs = c.loop-k.mail in
-    let n = c.count-others-wanted.result in
-    let xs = c.empty-places-found.result.0 in
-    let m = c.empty-places-found.result.1 in
+    let n = c.count_others-wanted.result in
+    let xs = c.empty_places-found.result.0 in
+    let m = c.empty_places-found.result.1 in
     let k = c.loop-k.k in
     let names = names_but c.args.but c.args.heads.now in
     let es = empties_from 0 ps in
-    let long : n ≡ length names = c.count-others-wanted.ensures in
-    let found : n ≤ length es = omega (arith, c.empty-places-found.ensures.count) in
-    let all : n ≡ m = omega (arith, c.empty-places-found.ensures.count) in
-    let e : take n xs ≡ take n es = ap (λ j. take j xs) all ∙ c.empty-places-found.ensures.places in
+    let long : n ≡ length names = c.count_others-wanted.ensures in
+    let found : n ≤ length es = omega (arith, c.empty_places-found.ensures.count) in
+    let all : n ≡ m = omega (arith, c.empty_places-found.ensures.count) in
+    let e : take n xs ≡ take n es = ap (λ j. take j xs) all ∙ c.empty_places-found.ensures.places in
     let l : length (take n xs) ≤ k = omega (arith, length-take n xs) in
     record {
       room = λ _. sym (le-leb (length (items_of ps) + length names) (length ps) (omega (arith, empty_or_full 0 ps)));

@@ -12,7 +12,7 @@ loop-p-preserved g c =
     let xs = c.args.mail.now in
     let ys = c.loop-p.mail in
     let i = c.loop-p.p-index in
-    ap (λ q. set ys i q) (c.without-mail-with.ensures ∙ ap (cleared (goes_with c.args.name)) (sym c.p-item.is))
+    ap (λ q. set ys i q) (c.without_mail_with.ensures ∙ ap (cleared (goes_with c.args.name)) (sym c.p-item.is))
     ∙ map_over_more (cleared (goes_with c.args.name)) xs ys i c.p-item.result c.loop-p-test.true c.loop-p.invariant c.p-item.is
 
 pub returns : goal.returns

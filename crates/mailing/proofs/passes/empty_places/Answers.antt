@@ -15,16 +15,16 @@ loop-i-preserved g c =
     let es = empties_from (i + 1) (drop (i + 1) ps) in
     let long = c.loop-i.invariant.1 in
     let h : k < length xs = omega arith in
-    elim c.if-is-empty.branch [
+    elim c.if-is_empty.branch [
       | then-is-empty w ↦ (
         omega (arith, w.count-is),
         ap length w.places-is ∙ length-set xs k i ∙ long,
-        ap₂ (λ n ys. take n ys ++ es) w.count-is w.places-is ∙ noted ps xs k i p c.loop-i-test.true c.index-mail-i.is (sym w.if-is-empty.true ∙ c.is_empty.ensures) h ∙ c.loop-i.invariant.2,
+        ap₂ (λ n ys. take n ys ++ es) w.count-is w.places-is ∙ noted ps xs k i p c.loop-i-test.true c.index-mail-i.is (sym w.if-is_empty.true ∙ c.is_empty.ensures) h ∙ c.loop-i.invariant.2,
       )
       | else-is-empty w ↦ (
         omega (arith, w.count-is, c.loop-i.invariant.0),
         ap length w.places-is ∙ long,
-        ap₂ (λ n ys. take n ys ++ es) w.count-is w.places-is ∙ not_noted ps xs k i p c.loop-i-test.true c.index-mail-i.is (sym w.if-is-empty.false ∙ c.is_empty.ensures) ∙ c.loop-i.invariant.2,
+        ap₂ (λ n ys. take n ys ++ es) w.count-is w.places-is ∙ not_noted ps xs k i p c.loop-i-test.true c.index-mail-i.is (sym w.if-is_empty.false ∙ c.is_empty.ensures) ∙ c.loop-i.invariant.2,
       )
     ]
 

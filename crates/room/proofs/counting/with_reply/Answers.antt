@@ -2,14 +2,14 @@ use Rattle.std.proofs.Common.{sym, refl, arith}
 use Rattle.room.proofs.CountedItems.{place_counted, replies_few, reply_counted, reply_passed}
 use Rattle.room.proofs.counting.with_reply.Goals as goal
 
-pub offset-bounds-replies-k : goal.offset-bounds-replies-k
-offset-bounds-replies-k g c = omega (arith, place_counted c.args.heads.now c.requires.few c.args.name c.in-Some.k (sym c.in-Some.ensures))
+pub offset_bounds-replies-k : goal.offset_bounds-replies-k
+offset_bounds-replies-k g c = omega (arith, place_counted c.args.heads.now c.requires.few c.args.name c.in-Some.k (sym c.in-Some.ensures))
 
 pub bounds-replies-k : goal.bounds-replies-k
 bounds-replies-k g c = place_counted c.args.heads.now c.requires.few c.args.name c.in-Some.k (sym c.in-Some.ensures)
 
-pub overflow-add-replies : goal.overflow-add-replies
-overflow-add-replies g c = omega (arith, c.requires.room, replies_few c.args.heads.now c.requires.counted.0 c.args.counts c.requires.counted.1 c.args.name c.in-Some.k (sym c.in-Some.ensures))
+pub overflow_add-replies : goal.overflow_add-replies
+overflow_add-replies g c = omega (arith, c.requires.room, replies_few c.args.heads.now c.requires.counted.0 c.args.counts c.requires.counted.1 c.args.name c.in-Some.k (sym c.in-Some.ensures))
 
 pub bounds-replies-k-in-Some : goal.bounds-replies-k-in-Some
 bounds-replies-k-in-Some g c = place_counted c.args.heads.now c.requires.few c.args.name c.in-Some.k (sym c.in-Some.ensures)

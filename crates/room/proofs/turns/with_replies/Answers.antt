@@ -14,10 +14,10 @@ returns-then-sent-places g c =
     let to = c.args.to.now in
     let j = c.loop-x.x-index in
     replying_full c.args.heads.now c.args.places c.args.time (λ x. inquiring_named x (amid c.args.delay c.args.time c.args.turns c.args.heads.now)) to c.args.counts j c.loop-x.sent c.loop-x.invariant
-    (get_or to j 0) c.loop-x-test.true (get_or_default to j 0 (get_or to j 0) c.loop-x-test.true) (sym c.if-is-inquiring-amid.ensures) c.if-sent-places.true
+    (get_or to j 0) c.loop-x-test.true (get_or_default to j 0 (get_or to j 0) c.loop-x-test.true) (sym c.if-is_inquiring_amid.ensures) c.if-sent-places.true
 
-pub with-reply-sent-requires : goal.with-reply-sent-requires
-with-reply-sent-requires g c =
+pub with_reply-sent-requires : goal.with_reply-sent-requires
+with_reply-sent-requires g c =
     let (origin, counted) = c.requires.counted in
     let (items, sent, _) = c.loop-x.invariant.1 origin 0 None counted in
     record { few = c.requires.few; room = omega (arith, c.if-sent-places.false); counted = (items, sent) }
@@ -26,13 +26,13 @@ pub loop-x-preserved : goal.loop-x-preserved
 loop-x-preserved g c =
     let to = c.args.to.now in
     let j = c.loop-x.x-index in
-    elim c.if-is-inquiring-amid.branch [
+    elim c.if-is_inquiring_amid.branch [
       | then-is-inquiring-amid+else-sent-places w ↦ rw w.sent-is
           (replying_more c.args.heads.now c.args.places c.args.time (λ x. inquiring_named x (amid c.args.delay c.args.time c.args.turns c.args.heads.now)) to c.args.counts j c.loop-x.sent c.loop-x.invariant
-          (get_or to j 0) c.loop-x-test.true (get_or_default to j 0 (get_or to j 0) c.loop-x-test.true) w.with-reply-sent.result (sym c.is-inquiring-amid.ensures ∙ w.if-is-inquiring-amid.true) w.if-sent-places.false w.with-reply-sent.ensures.items w.with-reply-sent.ensures.counted)
+          (get_or to j 0) c.loop-x-test.true (get_or_default to j 0 (get_or to j 0) c.loop-x-test.true) w.with_reply-sent.result (sym c.is_inquiring_amid.ensures ∙ w.if-is_inquiring_amid.true) w.if-sent-places.false w.with_reply-sent.ensures.items w.with_reply-sent.ensures.counted)
       | else-is-inquiring-amid w ↦ rw w.sent-is
           (replying_past c.args.heads.now c.args.places c.args.time (λ x. inquiring_named x (amid c.args.delay c.args.time c.args.turns c.args.heads.now)) to c.args.counts j c.loop-x.sent c.loop-x.invariant
-          (get_or to j 0) c.loop-x-test.true (get_or_default to j 0 (get_or to j 0) c.loop-x-test.true) (sym c.is-inquiring-amid.ensures ∙ w.if-is-inquiring-amid.false))
+          (get_or to j 0) c.loop-x-test.true (get_or_default to j 0 (get_or to j 0) c.loop-x-test.true) (sym c.is_inquiring_amid.ensures ∙ w.if-is_inquiring_amid.false))
     ]
 
 pub returns : goal.returns

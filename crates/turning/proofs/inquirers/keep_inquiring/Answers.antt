@@ -10,9 +10,9 @@ loop-i-preserved g c =
     let i = c.loop-i.i in
     let x = get_or ys i 0 in
     let h : i < length ys = omega arith in
-    elim c.if-is-inquiring.branch [
-      | then-is-inquiring w ↦ rw (w.names-is, w.count-is) (FiltersInPlace-more_set c.loop-i.invariant h (sym c.is_inquiring.ensures ∙ w.if-is-inquiring.true) (get_or_default ys i 0 x h))
-      | else-is-inquiring w ↦ rw (w.names-is, w.count-is) (FiltersInPlace-more_no {x = x} c.loop-i.invariant h (sym c.is_inquiring.ensures ∙ w.if-is-inquiring.false) (get_or_default ys i 0 x h))
+    elim c.if-is_inquiring.branch [
+      | then-is-inquiring w ↦ rw (w.names-is, w.count-is) (FiltersInPlace-more_set c.loop-i.invariant h (sym c.is_inquiring.ensures ∙ w.if-is_inquiring.true) (get_or_default ys i 0 x h))
+      | else-is-inquiring w ↦ rw (w.names-is, w.count-is) (FiltersInPlace-more_no {x = x} c.loop-i.invariant h (sym c.is_inquiring.ensures ∙ w.if-is_inquiring.false) (get_or_default ys i 0 x h))
     ]
 
 pub returns : goal.returns

@@ -8,17 +8,17 @@ use Rattle.acts.proofs.Named.{named}
 use Rattle.site.specs.States.{state_of}
 use Rattle.site.proofs.site.Site.look.Goals as goal
 
-pub returns-in-err-h : goal.returns-in-err-h
-returns-in-err-h g c =
-    let p = err_from_is_err_and c.from-residual.result c.from-residual.ensures.1 in
-    rw (p.1, p.2) (λ m. refused c.in-err-h.field-0.0 c.in-err-h.ensures refl refl)
+pub returns-in_err-h : goal.returns-in_err-h
+returns-in_err-h g c =
+    let p = err_from_is_err_and c.from_residual.result c.from_residual.ensures.1 in
+    rw (p.1, p.2) (λ m. refused c.in_err-h.field-0.0 c.in_err-h.ensures refl refl)
 
 pub returns : goal.returns
 returns g c m =
-    let e = c.in-ok-h.ensures in
-    let h = c.in-ok-h.h in
-    let f : SFits w64 c.copy-stamp.result = search rules in
+    let e = c.in_ok-h.ensures in
+    let h = c.in_ok-h.h in
+    let f : SFits w64 c.copy_stamp.result = search rules in
     accepted 0 e.0
-    (ap (Seen h.state) (to_z-of_z w64 c.copy-stamp.result f ∙ c.copy-stamp.ensures)
-    ∙ sym (ap look_answer (named c.args.name c.args.heads.now c.in-ok-h.field-0-0 e.1 h e.2)))
+    (ap (Seen h.state) (to_z-of_z w64 c.copy_stamp.result f ∙ c.copy_stamp.ensures)
+    ∙ sym (ap look_answer (named c.args.name c.args.heads.now c.in_ok-h.field-0-0 e.1 h e.2)))
     (same (state_of c.args.self.now c.args.heads.now c.args.mail.now m))

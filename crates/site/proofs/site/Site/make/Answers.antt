@@ -7,23 +7,23 @@ use Rattle.site.specs.Checks.{no_log}
 use Rattle.site.specs.States.{site_of}
 use Rattle.site.proofs.site.Site.make.Goals as goal
 
-pub returns-in-err-check-setup : goal.returns-in-err-check-setup
-returns-in-err-check-setup g c =
-    let p = err_from_is_err_and c.from-residual.result c.from-residual.ensures.1 in
-    rw (p.1, p.2) (record { made = λ m. c.in-err-check-setup.ensures m; kept = λ _. (refl, refl) })
+pub returns-in_err-check_setup : goal.returns-in_err-check_setup
+returns-in_err-check_setup g c =
+    let p = err_from_is_err_and c.from_residual.result c.from_residual.ensures.1 in
+    rw (p.1, p.2) (record { made = λ m. c.in_err-check_setup.ensures m; kept = λ _. (refl, refl) })
 
-pub new-site-requires : goal.new-site-requires
-new-site-requires g c =
-    few_heads g.row.V-Value.lawful (setup_of (length c.args.heads.now) (length c.args.mail.now) c.args.delay c.args.swap_limit c.args.start no_log) (c.in-ok-check-setup.ensures no_log)
+pub new_site-requires : goal.new_site-requires
+new_site-requires g c =
+    few_heads g.V.Value.lawful (setup_of (length c.args.heads.now) (length c.args.mail.now) c.args.delay c.args.swap_limit c.args.start no_log) (c.in_ok-check_setup.ensures no_log)
 
 pub returns : goal.returns
 returns g c =
-    let few = few_heads g.row.V-Value.lawful (setup_of (length c.args.heads.now) (length c.args.mail.now) c.args.delay c.args.swap_limit c.args.start no_log) (c.in-ok-check-setup.ensures no_log) in
+    let few = few_heads g.V.Value.lawful (setup_of (length c.args.heads.now) (length c.args.mail.now) c.args.delay c.args.swap_limit c.args.start no_log) (c.in_ok-check_setup.ensures no_log) in
     record {
       made = λ m. (
-        c.in-ok-check-setup.ensures m,
-        made (site_of c.new-site.result) c.args.heads.now c.fill.new.heads c.args.mail.now c.take-out-all.new.mail c.args.delay c.args.swap_limit c.args.start m
-            c.new-site.ensures (c.fill.ensures.filled (omega (arith, few))) c.take-out-all.auto.mail c.take-out-all.ensures,
+        c.in_ok-check_setup.ensures m,
+        made (site_of c.new_site.result) c.args.heads.now c.fill.new.heads c.args.mail.now c.take_out_all.new.mail c.args.delay c.args.swap_limit c.args.start m
+            c.new_site.ensures (c.fill.ensures.filled (omega (arith, few))) c.take_out_all.auto.mail c.take_out_all.ensures,
       );
       kept = λ e. absurd (false≢true e);
     }

@@ -7,56 +7,56 @@ use Rattle.site.specs.States.{site_of}
 use Rattle.site.proofs.Records.{few_lent, writes_told}
 use Rattle.site.proofs.site.Site.write.Goals as goal
 
-pub returns-in-err-i : goal.returns-in-err-i
-returns-in-err-i g c =
-    let p = err_from_is_err_and c.from-residual.result c.from-residual.ensures.1 in
+pub returns-in_err-i : goal.returns-in_err-i
+returns-in_err-i g c =
+    let p = err_from_is_err_and c.from_residual.result c.from_residual.ensures.1 in
     rw (p.1, p.2)
     (record {
-      step = λ m. write_refused g.row.V-Value.lawful (site_of c.args.self.now) c.args.heads.now c.args.mail.now m c.args.name c.args.value c.in-err-i.field-0.0 c.in-err-i.ensures;
+      step = λ m. write_refused g.V.Value.lawful (site_of c.args.self.now) c.args.heads.now c.args.mail.now m c.args.name c.args.value c.in_err-i.field-0.0 c.in_err-i.ensures;
       kept = λ _. (refl, refl, refl);
     })
 
-pub returns-in-err-writer : goal.returns-in-err-writer
-returns-in-err-writer g c =
-    let p = err_from_is_err_and c.from-residual-in-err-writer.result c.from-residual-in-err-writer.ensures.1 in
-    let e = c.in-ok-i.ensures in
-    let why = c.in-err-writer.field-0.0 in
-    let w = writes_told c.args.self.now g.row.V-Value.lawful c.is-some.result c.in-ok-i.h c.args.value (Err why) c.is-some.ensures c.in-err-writer.ensures in
+pub returns-in_err-writer : goal.returns-in_err-writer
+returns-in_err-writer g c =
+    let p = err_from_is_err_and c.from_residual-in_err-writer.result c.from_residual-in_err-writer.ensures.1 in
+    let e = c.in_ok-i.ensures in
+    let why = c.in_err-writer.field-0.0 in
+    let w = writes_told c.args.self.now g.V.Value.lawful c.is_some.result c.in_ok-i.h c.args.value (Err why) c.is_some.ensures c.in_err-writer.ensures in
     rw (p.1, p.2)
     (record {
       step = λ m.
-          write_not_begun g.row.V-Value.lawful (site_of c.args.self.now) c.args.heads.now c.args.mail.now m c.args.name c.args.value
-          e.0 c.in-ok-i.i e.1 c.in-ok-i.h e.2 why w;
+          write_not_begun g.V.Value.lawful (site_of c.args.self.now) c.args.heads.now c.args.mail.now m c.args.name c.args.value
+          e.0 c.in_ok-i.i e.1 c.in_ok-i.h e.2 why w;
       kept = λ _. (refl, refl, refl);
     })
 
 pub returns-then-not-broadcast : goal.returns-then-not-broadcast
 returns-then-not-broadcast g c =
-    let e = c.in-ok-i.ensures in
+    let e = c.in_ok-i.ensures in
     let b = c.if-not-broadcast.ensures in
-    let w = writes_told c.args.self.now g.row.V-Value.lawful c.is-some.result c.in-ok-i.h c.args.value (Ok c.in-ok-writer.writer) c.is-some.ensures c.in-ok-writer.ensures in
+    let w = writes_told c.args.self.now g.V.Value.lawful c.is_some.result c.in_ok-i.h c.args.value (Ok c.in_ok-writer.writer) c.is_some.ensures c.in_ok-writer.ensures in
     let few = few_lent c.args.self.now c.args.heads.now c.args.mail.now c.args.name e.0 in
     record {
       step = λ m.
-          write_full g.row.V-Value.lawful (site_of c.args.self.now) c.args.heads.now c.args.mail.now m c.args.name c.args.value
-          e.0 c.in-ok-i.i e.1 c.in-ok-i.h e.2 c.in-ok-writer.writer w c.write-item.result c.write-item.ensures
+          write_full g.V.Value.lawful (site_of c.args.self.now) c.args.heads.now c.args.mail.now m c.args.name c.args.value
+          e.0 c.in_ok-i.i e.1 c.in_ok-i.h e.2 c.in_ok-writer.writer w c.write_item.result c.write_item.ensures
           (b.room few) c.broadcast.new.mail (b.refused refl);
       kept = λ _. (refl, refl, b.refused refl);
     }
 
 pub returns : goal.returns
 returns g c =
-    let e = c.in-ok-i.ensures in
+    let e = c.in_ok-i.ensures in
     let b = c.if-not-broadcast.ensures in
-    let w = writes_told c.args.self.now g.row.V-Value.lawful c.is-some.result c.in-ok-i.h c.args.value (Ok c.in-ok-writer.writer) c.is-some.ensures c.in-ok-writer.ensures in
+    let w = writes_told c.args.self.now g.V.Value.lawful c.is_some.result c.in_ok-i.h c.args.value (Ok c.in_ok-writer.writer) c.is_some.ensures c.in_ok-writer.ensures in
     let few = few_lent c.args.self.now c.args.heads.now c.args.mail.now c.args.name e.0 in
-    let z = c.in-ok-writer.writer.stamp in
+    let z = c.in_ok-writer.writer.stamp in
     let f : SFits w64 z = search rules in
     record {
       step = λ m.
-          write_begun g.row.V-Value.lawful (site_of c.args.self.now) c.args.heads.now c.args.mail.now m c.args.name c.args.value
-          e.0 c.in-ok-i.i e.1 c.in-ok-i.h e.2 c.in-ok-writer.writer w c.write-item.result c.write-item.ensures
-          (b.room few) c.broadcast.new.mail (b.sent refl) c.broadcast.auto.mail c.put-head.new.heads c.put-head.ensures
-          (site_of c.after-write.result) c.after-write.ensures (to_z w64 (of_z w64 z)) (to_z-of_z w64 z f);
+          write_begun g.V.Value.lawful (site_of c.args.self.now) c.args.heads.now c.args.mail.now m c.args.name c.args.value
+          e.0 c.in_ok-i.i e.1 c.in_ok-i.h e.2 c.in_ok-writer.writer w c.write_item.result c.write_item.ensures
+          (b.room few) c.broadcast.new.mail (b.sent refl) c.broadcast.auto.mail c.put_head.new.heads c.put_head.ensures
+          (site_of c.after_write.result) c.after_write.ensures (to_z w64 (of_z w64 z)) (to_z-of_z w64 z f);
       kept = λ q. absurd (false≢true q);
     }

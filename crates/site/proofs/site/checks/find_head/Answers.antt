@@ -6,23 +6,23 @@ use Rattle.site.specs.Checks.{no_log}
 use Rattle.site.specs.States.{site_of}
 use Rattle.site.proofs.site.checks.find_head.Goals as goal
 
-pub returns-then-is-foreign : goal.returns-then-is-foreign
-returns-then-is-foreign g c = refused_here _ ForeignTables _ (foreign_by (site_of c.args.site) c.args.heads.now c.args.mail.now no_log (sym c.if-is-foreign.ensures))
+pub returns-then-is_foreign : goal.returns-then-is_foreign
+returns-then-is_foreign g c = refused_here _ ForeignTables _ (foreign_by (site_of c.args.site) c.args.heads.now c.args.mail.now no_log (sym c.if-is_foreign.ensures))
 
-pub offset-bounds-heads-i : goal.offset-bounds-heads-i
-offset-bounds-heads-i g c = omega (arith, within c.args.name c.args.heads.now c.in-Some.i (sym c.in-Some.ensures))
+pub offset_bounds-heads-i : goal.offset_bounds-heads-i
+offset_bounds-heads-i g c = omega (arith, within c.args.name c.args.heads.now c.in-Some.i (sym c.in-Some.ensures))
 
 pub bounds-heads-i : goal.bounds-heads-i
 bounds-heads-i g c = within c.args.name c.args.heads.now c.in-Some.i (sym c.in-Some.ensures)
 
 pub returns-in-None : goal.returns-in-None
 returns-in-None g c =
-    refused_later _ ForeignTables _ (foreign_by (site_of c.args.site) c.args.heads.now c.args.mail.now no_log (sym c.if-is-foreign.ensures))
+    refused_later _ ForeignTables _ (foreign_by (site_of c.args.site) c.args.heads.now c.args.mail.now no_log (sym c.if-is_foreign.ensures))
     (refused_here _ NoSuchHead _ (ap (λ o. not (is_some o)) (nobody c.args.name c.args.heads.now (sym c.in-None.ensures))))
 
 pub returns-in-Some : goal.returns-in-Some
 returns-in-Some g c = (
-  refused_later _ ForeignTables _ (foreign_by (site_of c.args.site) c.args.heads.now c.args.mail.now no_log (sym c.if-is-foreign.ensures))
+  refused_later _ ForeignTables _ (foreign_by (site_of c.args.site) c.args.heads.now c.args.mail.now no_log (sym c.if-is_foreign.ensures))
       (refused_later _ NoSuchHead _ (ap (λ o. not (is_some o)) (named c.args.name c.args.heads.now c.in-Some.i (sym c.in-Some.ensures) c.index-heads-i.result c.index-heads-i.is)) refl),
   sym c.in-Some.ensures,
   c.index-heads-i.is,
