@@ -8,7 +8,7 @@ use Rattle.register.proofs.perform.Goals as goal
 pub returns-in-Swap : goal.returns-in-Swap
 returns-in-Swap g c =
     let p = performed g.V.Value.lawful (state_of c.args.site.now c.args.heads.now c.args.mail.now (g.L.Log.meaning c.args.log.now)) c.args.call.now (Swap c.in-Swap.name) c.swapped.result (swapped_answer c.swap.result) (state_of c.swap.new.self c.swap.new.heads c.swap.new.mail (g.L.Log.meaning c.args.log.now)) c.in-Swap.is c.swapped.ensures (c.swap.ensures.step (g.L.Log.meaning c.args.log.now)) in
-    record { step = p.0; law = p.1; kept = λ e. c.swap.ensures.kept (swap_told g.V.Denot c.swap.result (ap (λ a. is_some (refusal_told a)) (sym c.swapped.ensures) ∙ e)); lender = g.L.Log.rests c.args.log.now }
+    record { step = p.0; law = p.1; kept = λ e. c.swap.ensures.kept (swap_told g.row.V.Denot c.swap.result (ap (λ a. is_some (refusal_told a)) (sym c.swapped.ensures) ∙ e)); lender = g.L.Log.rests c.args.log.now }
 
 pub returns-in-Read : goal.returns-in-Read
 returns-in-Read g c =
@@ -18,17 +18,17 @@ returns-in-Read g c =
 pub returns-in-Write : goal.returns-in-Write
 returns-in-Write g c =
     let p = performed g.V.Value.lawful (state_of c.args.site.now c.args.heads.now c.args.mail.now (g.L.Log.meaning c.args.log.now)) c.args.call.now (Write c.in-Write.name c.in-Write.value) c.written.result (written_answer c.write.result) (state_of c.write.new.self c.write.new.heads c.write.new.mail (g.L.Log.meaning c.args.log.now)) c.in-Write.is c.written.ensures (c.write.ensures.step (g.L.Log.meaning c.args.log.now)) in
-    record { step = p.0; law = p.1; kept = λ e. c.write.ensures.kept (write_told g.V.Denot c.write.result (ap (λ a. is_some (refusal_told a)) (sym c.written.ensures) ∙ e)); lender = g.L.Log.rests c.args.log.now }
+    record { step = p.0; law = p.1; kept = λ e. c.write.ensures.kept (write_told g.row.V.Denot c.write.result (ap (λ a. is_some (refusal_told a)) (sym c.written.ensures) ∙ e)); lender = g.L.Log.rests c.args.log.now }
 
 pub returns-in-Bring : goal.returns-in-Bring
 returns-in-Bring g c =
     let p = performed g.V.Value.lawful (state_of c.args.site.now c.args.heads.now c.args.mail.now (g.L.Log.meaning c.args.log.now)) c.args.call.now (Bring c.in-Bring.kind c.in-Bring.sender c.in-Bring.receiver) c.brought.result (brought_answer c.bring.result) (state_of c.args.site.now c.bring.new.heads c.bring.new.mail (g.L.Log.meaning c.args.log.now)) c.in-Bring.is c.brought.ensures (c.bring.ensures.step (g.L.Log.meaning c.args.log.now)) in
-    record { step = p.0; law = p.1; kept = λ e. let k = c.bring.ensures.kept (bring_told g.V.Denot c.bring.result (ap (λ a. is_some (refusal_told a)) (sym c.brought.ensures) ∙ e)) in (refl, k.0, k.1); lender = g.L.Log.rests c.args.log.now }
+    record { step = p.0; law = p.1; kept = λ e. let k = c.bring.ensures.kept (bring_told g.row.V.Denot c.bring.result (ap (λ a. is_some (refusal_told a)) (sym c.brought.ensures) ∙ e)) in (refl, k.0, k.1); lender = g.L.Log.rests c.args.log.now }
 
 pub returns-in-Tick : goal.returns-in-Tick
 returns-in-Tick g c =
     let p = performed g.V.Value.lawful (state_of c.args.site.now c.args.heads.now c.args.mail.now (g.L.Log.meaning c.args.log.now)) c.args.call.now (Tick) c.ticked.result (ticked_answer c.tick.result) (state_of c.tick.new.self c.tick.new.heads c.tick.new.mail (g.L.Log.meaning c.args.log.now)) c.in-Tick.is c.ticked.ensures (c.tick.ensures.step (g.L.Log.meaning c.args.log.now)) in
-    record { step = p.0; law = p.1; kept = λ e. c.tick.ensures.kept (tick_told g.V.Denot c.tick.result (ap (λ a. is_some (refusal_told a)) (sym c.ticked.ensures) ∙ e)); lender = g.L.Log.rests c.args.log.now }
+    record { step = p.0; law = p.1; kept = λ e. c.tick.ensures.kept (tick_told g.row.V.Denot c.tick.result (ap (λ a. is_some (refusal_told a)) (sym c.ticked.ensures) ∙ e)); lender = g.L.Log.rests c.args.log.now }
 
 pub returns-in-Look : goal.returns-in-Look
 returns-in-Look g c =

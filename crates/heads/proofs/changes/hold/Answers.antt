@@ -32,5 +32,5 @@ returns g c =
     let e = sym c.if-holds.ensures in
     record {
       held = λ _. c.with_held.ensures ∙ ap (λ ys. with_held ys k) (take_more_set xs n x l) ∙ held_now x k e;
-      full = λ r. absurd (room x k e (omega (arith, few_held n xs z c.if-count-ge-HELD-NAMES.false)) r);
+      full = λ r. absurd (room x k e (omega (arith, few_held n xs z c.if-count-ge-HELD_NAMES.false)) r);
     }

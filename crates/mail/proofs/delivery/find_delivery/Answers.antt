@@ -37,6 +37,6 @@ returns-after-loop-k g c =
 
 pub returns-after-loop-i : goal.returns-after-loop-i
 returns-after-loop-i g c =
-    let items : MailPlace g.V.Denot → Bool = λ p. holds_of (is_told c.args.kind c.args.sender c.args.receiver) (item_of p) in
+    let items : MailPlace g.row.V.Denot → Bool = λ p. holds_of (is_told c.args.kind c.args.sender c.args.receiver) (item_of p) in
     sym (ap (λ o. both_places o (place_of items c.args.mail.now))
     (sym c.loop-i.invariant ∙ place_none (λ h. is_named c.args.receiver (head_of h)) c.args.heads.now c.loop-i.i c.loop-i-test.false))

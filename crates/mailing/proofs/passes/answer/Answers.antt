@@ -8,7 +8,7 @@ use Rattle.mailing.proofs.passes.answer.Goals.{then-takes, else-takes}
 
 pub loop-place-preserved : goal.loop-place-preserved
 loop-place-preserved g c =
-    let f = cleared (is_reply_to {V = g.V.Denot} c.args.name) in
+    let f = cleared (is_reply_to {V = g.row.V.Denot} c.args.name) in
     let names = c.args.names.now in
     let xs = c.args.mail.now in
     let ys = c.loop-place.mail in
@@ -27,7 +27,7 @@ loop-place-preserved g c =
 
 pub returns : goal.returns
 returns g c =
-    let t = is_reply_to {V = g.V.Denot} c.args.name in
+    let t = is_reply_to {V = g.row.V.Denot} c.args.name in
     let l : length c.loop-place.mail ≤ c.loop-place.place-index = omega arith in
     left_as (refilling_all (cleared t) c.args.item c.args.names.now c.args.mail.now c.loop-place.mail c.loop-place.sent c.loop-place.place-index c.loop-place.invariant l)
     (refilled_bag (cleared t) t (cleared_item t) c.args.item c.args.mail.now c.args.names.now)

@@ -3,7 +3,7 @@ use Rattle.std.proofs.lemmas.List.{length-set}
 use Rattle.mailing.specs.EmptyPlaces.{empties_from}
 use Rattle.mailing.proofs.EmptyPlaces.{noted, not_noted, noted_enough, noted_all}
 use Rattle.mailing.proofs.passes.empty_places.Goals as goal
-use Rattle.mailing.proofs.passes.empty_places.Goals.{then-is-empty, else-is-empty}
+use Rattle.mailing.proofs.passes.empty_places.Goals.{then-is_empty, else-is_empty}
 
 pub loop-i-preserved : goal.loop-i-preserved
 loop-i-preserved g c =
@@ -16,12 +16,12 @@ loop-i-preserved g c =
     let long = c.loop-i.invariant.1 in
     let h : k < length xs = omega arith in
     elim c.if-is_empty.branch [
-      | then-is-empty w ↦ (
+      | then-is_empty w ↦ (
         omega (arith, w.count-is),
         ap length w.places-is ∙ length-set xs k i ∙ long,
         ap₂ (λ n ys. take n ys ++ es) w.count-is w.places-is ∙ noted ps xs k i p c.loop-i-test.true c.index-mail-i.is (sym w.if-is_empty.true ∙ c.is_empty.ensures) h ∙ c.loop-i.invariant.2,
       )
-      | else-is-empty w ↦ (
+      | else-is_empty w ↦ (
         omega (arith, w.count-is, c.loop-i.invariant.0),
         ap length w.places-is ∙ long,
         ap₂ (λ n ys. take n ys ++ es) w.count-is w.places-is ∙ not_noted ps xs k i p c.loop-i-test.true c.index-mail-i.is (sym w.if-is_empty.false ∙ c.is_empty.ensures) ∙ c.loop-i.invariant.2,

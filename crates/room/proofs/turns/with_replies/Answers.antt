@@ -4,7 +4,7 @@ use Rattle.protocol.specs.Heads.{inquiring_named}
 use Rattle.room.specs.Amid.{amid}
 use Rattle.room.proofs.Replying.{replying_start, replying_past, replying_full, replying_more, replying_end}
 use Rattle.room.proofs.turns.with_replies.Goals as goal
-use Rattle.room.proofs.turns.with_replies.Goals.{then-is-inquiring-amid+else-sent-places, else-is-inquiring-amid}
+use Rattle.room.proofs.turns.with_replies.Goals.{then-is_inquiring_amid+else-sent-places, else-is_inquiring_amid}
 
 pub loop-x-init : goal.loop-x-init
 loop-x-init g c = replying_start c.args.heads.now c.args.places c.args.time (λ x. inquiring_named x (amid c.args.delay c.args.time c.args.turns c.args.heads.now)) c.args.to.now c.args.counts c.requires.within
@@ -27,10 +27,10 @@ loop-x-preserved g c =
     let to = c.args.to.now in
     let j = c.loop-x.x-index in
     elim c.if-is_inquiring_amid.branch [
-      | then-is-inquiring-amid+else-sent-places w ↦ rw w.sent-is
+      | then-is_inquiring_amid+else-sent-places w ↦ rw w.sent-is
           (replying_more c.args.heads.now c.args.places c.args.time (λ x. inquiring_named x (amid c.args.delay c.args.time c.args.turns c.args.heads.now)) to c.args.counts j c.loop-x.sent c.loop-x.invariant
           (get_or to j 0) c.loop-x-test.true (get_or_default to j 0 (get_or to j 0) c.loop-x-test.true) w.with_reply-sent.result (sym c.is_inquiring_amid.ensures ∙ w.if-is_inquiring_amid.true) w.if-sent-places.false w.with_reply-sent.ensures.items w.with_reply-sent.ensures.counted)
-      | else-is-inquiring-amid w ↦ rw w.sent-is
+      | else-is_inquiring_amid w ↦ rw w.sent-is
           (replying_past c.args.heads.now c.args.places c.args.time (λ x. inquiring_named x (amid c.args.delay c.args.time c.args.turns c.args.heads.now)) to c.args.counts j c.loop-x.sent c.loop-x.invariant
           (get_or to j 0) c.loop-x-test.true (get_or_default to j 0 (get_or to j 0) c.loop-x-test.true) (sym c.is_inquiring_amid.ensures ∙ w.if-is_inquiring_amid.false))
     ]
