@@ -5,14 +5,14 @@ use Rattle.protocol.specs.declared.state.HeadState.{HeadState}
 use Rattle.protocol.specs.declared.refusal.Refusal.{Refusal}
 use Rattle.protocol.specs.declared.answer.Answer.{Answer}
 use Rattle.protocol.specs.declared.answer.Answer.TheVariants.{Swapped, Value, Written, Brought, Ticked, Seen, Refused}
-use Rattle.protocol.specs.Sites.{UnderWay, Site as Told, State}
+use Rattle.protocol.specs.Sites.{UnderWay as ToldUnderWay, Site as Told, State}
 use Rattle.tables.specs.declared.head.Head.{Head}
 use Rattle.tables.specs.declared.mail.MailPlace.{MailPlace}
 use Rattle.acts.specs.Lent.{lent}
 use Rattle.site.specs.declared.site.UnderWay.{UnderWay}
 use Rattle.site.specs.declared.site.Site.{Site}
 
-abbrev pub under_way_of : Option UnderWay → Option UnderWay
+abbrev pub under_way_of : Option UnderWay → Option ToldUnderWay
 under_way_of None = None
 under_way_of (Some u) = Some (record { writer = u.writer; begin = u.begin })
 
