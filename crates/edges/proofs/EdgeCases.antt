@@ -1,12 +1,12 @@
 -- The edges hold.
-use Rattle.std.proofs.Common.{◌≡◌, ℕ, zero, suc, ◌-◌, ◌*◌, ◌/◌, Bool, true, cond, eqb, List, [], ◌∷◌, Some, None, refl, ap, ◌∙◌, ap₂, arith}
+use Rattle.std.proofs.Common.{◌≡◌, ℕ, zero, suc, ◌-◌, ◌*◌, ◌/◌, Bool, cond, eqb, [], ◌∷◌, Some, None, refl, ap, ◌∙◌, ap₂, arith}
 use Rattle.std.proofs.lemmas.Bool.{cond-true, eq-eqb}
 use Rattle.plans.specs.Plans.{plan_lawful, plan_built}
 use Rattle.plans.proofs.PlanParts.{plan_judged}
 use Rattle.modes.proofs.ModeParts.{mode_judged}
 use Rattle.logs.specs.declared.entry.LogRefusal.TheVariants.{Unsound, Full}
 use Rattle.logs.specs.Entries.{sound}
-use Rattle.logs.specs.Meanings.{Meaning, add_refusal, added}
+use Rattle.logs.specs.Meanings.{Meaning, added}
 use Rattle.logs.proofs.Adding.{takes}
 use Rattle.wordlog.specs.WordLogs.{word_meaning}
 use Rattle.edges.specs.Edges.{TakesExactly, PlansOn, Edges, AllEdges}

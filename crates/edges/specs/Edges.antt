@@ -1,5 +1,5 @@
 -- The edges of plans, of modes, of the word log and of make, as one statement about the definitions.
-use Rattle.std.specs.Prelude.{◌≡◌, ℕ, zero, suc, ◌*◌, Bool, true, List, [], ◌∷◌, length, Some, None, Option}
+use Rattle.std.specs.Prelude.{◌≡◌, ℕ, zero, suc, ◌*◌, Bool, true, [], ◌∷◌, length, Some, None, Option}
 use Rattle.std.specs.Option.{option_map}
 use Rattle.kinds.specs.Parts.{PartsOf, FirstWrong}
 use Rattle.plans.specs.declared.Plan.{Plan}

@@ -16,7 +16,7 @@ use Rattle.protocol.specs.Sites.{State, refused_by}
 use Rattle.protocol.specs.Make.{Setup}
 use Rattle.protocol.specs.Bring.{bring_checks, bring_refusal}
 use Rattle.protocol.specs.Tick.{tick_checks, tick_refusal}
-use Rattle.protocol.specs.Steps.{answer, Step, refused, accepted}
+use Rattle.protocol.specs.Steps.{Step, refused, accepted}
 use Rattle.law.specs.Tallies.{History}
 use Rattle.law.specs.Runs.{Reached, made, then}
 use Rattle.law.specs.Laws.{Fits, LowChurn, AnswerInBounds, AlwaysInBounds, ClockProgress, AlwaysProgress}

@@ -10,10 +10,10 @@ use Rattle.protocol.specs.declared.answer.Answer.TheVariants.{Refused}
 use Rattle.protocol.specs.Answers.{value_read}
 use Rattle.protocol.specs.Heads.{Copy, copy_named}
 use Rattle.protocol.specs.Sites.{State, Same}
-use Rattle.protocol.specs.Make.{Setup, Made}
+use Rattle.protocol.specs.Make.{Setup}
 use Rattle.protocol.specs.Read.{read_checks, entry_read, log_refusal, logged}
 use Rattle.protocol.specs.Steps.{refusal, answer, read_answer, leaves, Step, refused, accepted}
-use Rattle.law.specs.Tallies.{Event, History, Tally, Row, value_under_way, tally_read, fed, tally}
+use Rattle.law.specs.Tallies.{History, Tally, value_under_way, tally_read, fed, tally}
 use Rattle.law.specs.Runs.{Reached, made, then}
 use Rattle.law.specs.Promises.{row_entry}
 use Rattle.law.proofs.Checks.{passed}

@@ -3,7 +3,7 @@ use Rattle.std.proofs.Common.{◌≡◌, ℕ, suc, ◌<◌, List, [], map, None,
 use Rattle.std.proofs.lemmas.Bool.Decides.{nat_tests}
 use Rattle.protocol.specs.Places.{change_first}
 use Rattle.protocol.specs.Heads.{Head, is_named, forgetting}
-use Rattle.protocol.specs.Items.{Item, goes_with, dropping}
+use Rattle.protocol.specs.Items.{goes_with, dropping}
 use Rattle.protocol.specs.Sites.{State}
 use Rattle.protocol.specs.Make.{Setup}
 use Rattle.protocol.specs.Swap.{swap_checks, swap_refusal, swap_leaves, newcomer}

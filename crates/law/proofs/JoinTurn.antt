@@ -5,7 +5,7 @@ use Rattle.std.proofs.lemmas.Bool.{eqb-true, eqb-false}
 use Rattle.protocol.specs.declared.state.HeadState.{HeadState}
 use Rattle.protocol.specs.declared.state.HeadState.TheVariants.{Listening, Inquiring, Active, Stranded}
 use Rattle.protocol.specs.Heads.{Copy, Head, newer, inquiring_named}
-use Rattle.protocol.specs.Items.{Item, inquiry, reply, is_reply_to, dropping, put, to_each}
+use Rattle.protocol.specs.Items.{Item, inquiry, reply, is_reply_to, dropping, to_each}
 use Rattle.protocol.specs.Sites.{State}
 use Rattle.protocol.specs.Make.{Setup}
 use Rattle.protocol.specs.Tick.{Turn, rests, inquires, activates, strands, activates_or, turn_in, turn, turned_by, turned, turn_mail}

@@ -5,7 +5,7 @@ use Rattle.std.proofs.lemmas.Bool.{eqb-true, not-false, or_parts}
 use Rattle.protocol.specs.declared.state.HeadState.TheVariants.{Active}
 use Rattle.protocol.specs.Places.{all_but_first, change_first}
 use Rattle.protocol.specs.Heads.{Copy, Head, is_named, is_active, holds_of, state_by, copy_by, copy_named, next_stamp, with_copy}
-use Rattle.protocol.specs.Items.{Item, write, put, to_each}
+use Rattle.protocol.specs.Items.{Item, write, to_each}
 use Rattle.protocol.specs.Sites.{State}
 use Rattle.protocol.specs.Make.{Setup}
 use Rattle.protocol.specs.Write.{write_checks, write_refusal, write_mail, write_leaves, new_copy}

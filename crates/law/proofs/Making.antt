@@ -1,8 +1,8 @@
 -- What make accepts fits, and its churn is low.
-use Rattle.std.proofs.Common.{◌-◌, ◌*◌, ◌<◌, ◌≤◌, None, mul-le-mul_right, arith}
+use Rattle.std.proofs.Common.{◌-◌, ◌*◌, ◌≤◌, None, mul-le-mul_right, arith}
 use Rattle.std.proofs.lemmas.Bool.Decides.{nat_tests}
-use Rattle.protocol.specs.Make.{Setup, make_checks}
-use Rattle.law.specs.Laws.{Fits, LowChurn, MakeSuffices}
+use Rattle.protocol.specs.Make.{make_checks}
+use Rattle.law.specs.Laws.{MakeSuffices}
 use Rattle.law.proofs.Checks.{passed}
 
 pub make_suffices : (V : Type 0) → MakeSuffices V

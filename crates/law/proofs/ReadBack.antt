@@ -6,7 +6,6 @@ use Rattle.protocol.specs.declared.state.HeadState.TheVariants.{Listening, Inqui
 use Rattle.protocol.specs.Heads.{Copy, Head}
 use Rattle.protocol.specs.Sites.{UnderWay, State}
 use Rattle.protocol.specs.Make.{Setup}
-use Rattle.law.proofs.Coded as code
 use Rattle.law.proofs.Coded.{In, listening, inquiring, active}
 use Rattle.law.proofs.Base.{in_map}
 use Rattle.law.proofs.Inv as inv

@@ -1,5 +1,5 @@
 -- The sample shift is a run, call by call.
-use Rattle.std.proofs.Common.{◌≡◌, List, [], ◌∷◌, reverse, Some, None, refl}
+use Rattle.std.proofs.Common.{◌≡◌, [], ◌∷◌, Some, None, refl}
 use Rattle.std.proofs.lemmas.List.Sorted.{IsPermutation-refl}
 use Rattle.plans.specs.Plans.{plan_lawful}
 use Rattle.plans.specs.declared.Plan.{Plan}
@@ -7,14 +7,14 @@ use Rattle.protocol.specs.declared.kind.MailKind.TheVariants.{Write as WRITE, In
 use Rattle.protocol.specs.declared.refusal.Refusal.{Refusal}
 use Rattle.protocol.specs.declared.refusal.Refusal.TheVariants.{NotActive, WritingHead, MailDue}
 use Rattle.protocol.specs.declared.call.Call.{Call}
-use Rattle.protocol.specs.declared.call.Call.TheVariants.{Swap, Read, Write, Bring, Tick, Look}
+use Rattle.protocol.specs.declared.call.Call.TheVariants.{Swap, Read, Write, Bring, Tick}
 use Rattle.protocol.specs.declared.answer.Answer.TheVariants.{Refused}
 use Rattle.protocol.specs.Sites.{State}
 use Rattle.protocol.specs.Make.{Lacking}
 use Rattle.protocol.specs.Steps.{refusal, answer, leaves, accepted, refused}
-use Rattle.law.specs.Tallies.{Event, History}
+use Rattle.law.specs.Tallies.{History}
 use Rattle.law.specs.Runs.{Reached, made, then}
-use Rattle.law.specs.Samples.{plan, plan_site, event, sample_calls, SampleRun}
+use Rattle.law.specs.Samples.{plan, plan_site, event, SampleRun}
 
 abbrev Run : History Plan → State Plan → Type 0
 Run es s = Reached plan_lawful (plan_site 4 1 1) es s

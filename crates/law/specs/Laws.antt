@@ -1,5 +1,5 @@
 -- The law of the register over whole runs, for every kind of value and every log.
-use Rattle.std.specs.Prelude.{◌≡◌, ℕ, ◌-◌, ◌*◌, ◌<◌, ◌≤◌, Bool, true, false, [], ◌∷◌, is_some, Some, None, Option, ◌≢◌}
+use Rattle.std.specs.Prelude.{◌≡◌, ◌-◌, ◌*◌, ◌<◌, ◌≤◌, Bool, true, false, [], ◌∷◌, is_some, Some, None, ◌≢◌}
 use Rattle.std.specs.List.{AllByRecursion as All}
 use Rattle.logs.specs.declared.entry.LogRefusal.TheVariants.{Unsound}
 use Rattle.protocol.specs.declared.state.HeadState.TheVariants.{Stranded}
@@ -8,13 +8,12 @@ use Rattle.protocol.specs.declared.answer.Answer.{Answer}
 use Rattle.protocol.specs.Answers.{refusal_told}
 use Rattle.protocol.specs.Numbers.{last_tick}
 use Rattle.protocol.specs.Places.{first}
-use Rattle.protocol.specs.Heads.{Head}
-use Rattle.protocol.specs.Items.{Item, kind_of, sender_of, receiver_of, is_told, is_due}
+use Rattle.protocol.specs.Items.{kind_of, sender_of, receiver_of, is_told, is_due}
 use Rattle.protocol.specs.Sites.{State}
 use Rattle.protocol.specs.Make.{Setup, make_refusal}
 use Rattle.protocol.specs.Bring.{bring_refusal}
 use Rattle.protocol.specs.Tick.{tick_refusal}
-use Rattle.law.specs.Tallies.{Event, History, Tally, tally}
+use Rattle.law.specs.Tallies.{History, tally}
 use Rattle.protocol.specs.declared.call.Call.{Call}
 use Rattle.law.specs.Runs.{Reached}
 use Rattle.law.specs.Promises.{RegularReads, ActiveInTime, FaithfulLog}

@@ -5,7 +5,7 @@ use Rattle.logs.specs.declared.entry.Entry.{Entry}
 use Rattle.protocol.specs.declared.state.HeadState.TheVariants.{Active}
 use Rattle.protocol.specs.Heads.{state_named}
 use Rattle.protocol.specs.Sites.{State}
-use Rattle.law.specs.Tallies.{Presence, Row, Tally}
+use Rattle.law.specs.Tallies.{Row, Tally}
 
 -- the value read is the last finished value or that of the write under way, as they stood at that read
 abbrev pub Regular : {V : Type 0} → Row V → Type 0

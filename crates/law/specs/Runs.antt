@@ -1,11 +1,11 @@
 -- Runs: a site is made, and then any calls come, mixed, repeated or refused.
-use Rattle.std.specs.Prelude.{Bool, List, [], ◌∷◌}
+use Rattle.std.specs.Prelude.{Bool, [], ◌∷◌}
 use Rattle.protocol.specs.declared.call.Call.{Call}
 use Rattle.protocol.specs.declared.answer.Answer.{Answer}
 use Rattle.protocol.specs.Sites.{State}
 use Rattle.protocol.specs.Make.{Setup, Made}
 use Rattle.protocol.specs.Steps.{Step}
-use Rattle.law.specs.Tallies.{Event, History}
+use Rattle.law.specs.Tallies.{History}
 
 -- a run of the site made with m, by these calls with these answers, can leave this state, for some choice of what is free
 pub data Reached {V : Type 0} (lawful : V → Bool) (m : Setup V) : History V → State V → Type 0 where

@@ -6,9 +6,9 @@ use Rattle.plans.specs.declared.Plan.{Plan}
 use Rattle.protocol.specs.declared.kind.MailKind.TheVariants.{Write as WRITE, Inquiry as INQUIRY, Reply as REPLY}
 use Rattle.protocol.specs.declared.refusal.Refusal.TheVariants.{NotActive, WritingHead, MailDue}
 use Rattle.protocol.specs.declared.call.Call.{Call}
-use Rattle.protocol.specs.declared.call.Call.TheVariants.{Swap, Read, Write, Bring, Tick, Look}
+use Rattle.protocol.specs.declared.call.Call.TheVariants.{Swap, Read, Write, Bring, Tick}
 use Rattle.protocol.specs.declared.answer.Answer.{Answer}
-use Rattle.protocol.specs.declared.answer.Answer.TheVariants.{Swapped, Value, Written, Brought, Ticked, Seen, Refused}
+use Rattle.protocol.specs.declared.answer.Answer.TheVariants.{Swapped, Value, Written, Brought, Ticked, Refused}
 use Rattle.protocol.specs.Numbers.{refusal_number}
 use Rattle.protocol.specs.Sites.{State}
 use Rattle.protocol.specs.Make.{Setup, make_refusal}

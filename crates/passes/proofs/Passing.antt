@@ -1,5 +1,5 @@
 -- What a look tells of a pass.
-use Rattle.std.proofs.Common.{◌≡◌, ℕ, Bool, true, false, cond, not, ℤ, is_some, Some, None, Ok, Err, Option, sym, refl, ap, ◌∙◌, arith}
+use Rattle.std.proofs.Common.{◌≡◌, ℕ, Bool, true, false, cond, not, ℤ, is_some, Some, None, Ok, Err, Option, sym, ap, ◌∙◌, arith}
 use Rattle.protocol.specs.declared.state.HeadState.{HeadState}
 use Rattle.protocol.specs.declared.refusal.Refusal.{Refusal}
 use Rattle.protocol.specs.declared.refusal.Refusal.TheVariants.{ForeignTables, NoSuchHead, NotActive}

@@ -1,5 +1,5 @@
 -- What an answer holds.
-use Rattle.std.specs.Prelude.{ℕ, Bool, true, false, ℤ, Some, None, Option}
+use Rattle.std.specs.Prelude.{ℕ, ℤ, Some, None, Option}
 use Rattle.protocol.specs.declared.refusal.Refusal.{Refusal}
 use Rattle.protocol.specs.declared.answer.Answer.{Answer}
 use Rattle.protocol.specs.declared.answer.Answer.TheVariants.{Swapped, Value, Written, Brought, Ticked, Seen, Refused}

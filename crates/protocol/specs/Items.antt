@@ -1,5 +1,5 @@
 -- The mail: items on their way from a sender to a receiver.
-use Rattle.std.specs.Prelude.{ℕ, ◌+◌, Bool, true, false, cond, not, ◌&&◌, ◌||◌, List, [], ◌∷◌, ◌++◌, map, length, Some, None, filter, Option, ◌==◌, nat_le}
+use Rattle.std.specs.Prelude.{ℕ, ◌+◌, Bool, true, false, cond, not, ◌&&◌, ◌||◌, List, ◌++◌, map, length, Some, None, filter, Option, ◌==◌, nat_le}
 use Rattle.protocol.specs.declared.kind.MailKind.{MailKind}
 use Rattle.protocol.specs.declared.kind.MailKind.TheVariants.{Write, Inquiry, Reply}
 use Rattle.protocol.specs.Heads.{Copy, Head}

@@ -4,8 +4,8 @@ use Rattle.logs.specs.Meanings.{Meaning}
 use Rattle.protocol.specs.declared.state.HeadState.TheVariants.{Active}
 use Rattle.protocol.specs.declared.refusal.Refusal.{Refusal}
 use Rattle.protocol.specs.declared.refusal.Refusal.TheVariants.{HeadCount, DelayLimit, ChurnLimit, MailPlaces, StartUnlawful}
-use Rattle.protocol.specs.Heads.{Copy, Head}
-use Rattle.protocol.specs.Sites.{Site, State, Same, refused_by}
+use Rattle.protocol.specs.Heads.{Head}
+use Rattle.protocol.specs.Sites.{Site, State, refused_by}
 
 -- what a site is made with: size is the number of head places; the log may hold entries already
 pub record Setup (V : Type 0) : Type 0 where

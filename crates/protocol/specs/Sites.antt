@@ -1,5 +1,5 @@
 -- A site: its numbers, the tables lent to it, and its log by what it means.
-use Rattle.std.specs.Prelude.{◌≡◌, ℕ, ◌*◌, Bool, cond, not, ◌||◌, List, [], ◌∷◌, length, Some, None, Option, ◌==◌, nat_lt}
+use Rattle.std.specs.Prelude.{◌≡◌, ℕ, ◌*◌, Bool, cond, not, ◌||◌, List, [], ◌∷◌, length, Some, Option, ◌==◌, nat_lt}
 use Rattle.std.specs.List.Sorted.{IsPermutation}
 use Rattle.logs.specs.Meanings.{Meaning}
 use Rattle.protocol.specs.declared.refusal.Refusal.{Refusal}

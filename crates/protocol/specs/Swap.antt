@@ -1,5 +1,5 @@
 -- Swap: a newcomer takes the place of a head.
-use Rattle.std.specs.Prelude.{ℕ, ◌+◌, Bool, not, List, [], ◌∷◌, map, Some, None, Option, nat_eq, nat_le, nat_lt}
+use Rattle.std.specs.Prelude.{ℕ, ◌+◌, Bool, not, List, [], ◌∷◌, map, None, Option, nat_eq, nat_le, nat_lt}
 use Rattle.protocol.specs.declared.state.HeadState.TheVariants.{Listening}
 use Rattle.protocol.specs.declared.refusal.Refusal.{Refusal}
 use Rattle.protocol.specs.declared.refusal.Refusal.TheVariants.{ForeignTables, NoSuchHead, WritingHead, SwapLimit, NamesUsedUp}

@@ -1,11 +1,11 @@
 -- Write: an active head takes a new value and sends it to every other head.
-use Rattle.std.specs.Prelude.{ℕ, ◌+◌, Bool, not, ◌||◌, List, [], ◌∷◌, is_some, Some, None, Option, nat_lt}
+use Rattle.std.specs.Prelude.{ℕ, Bool, not, ◌||◌, List, [], ◌∷◌, is_some, Some, None, Option, nat_lt}
 use Rattle.std.specs.Option.{unwrap_or}
 use Rattle.protocol.specs.declared.refusal.Refusal.{Refusal}
 use Rattle.protocol.specs.declared.refusal.Refusal.TheVariants.{ForeignTables, NoRoom, NoSuchHead, NotActive, ValueUnlawful, WriteUnderWay}
 use Rattle.protocol.specs.Numbers.{last_number}
 use Rattle.protocol.specs.Places.{all_but_first, change_first}
-use Rattle.protocol.specs.Heads.{Copy, Head, is_named, present, active_named, copy_named, next_stamp, with_copy}
+use Rattle.protocol.specs.Heads.{Copy, is_named, present, active_named, copy_named, next_stamp, with_copy}
 use Rattle.protocol.specs.Items.{Item, write, put, to_each}
 use Rattle.protocol.specs.Sites.{Site, State, foreign, refused_by}
 

@@ -1,4 +1,4 @@
-use Rattle.std.proofs.Common.{◌+◌, ◌-◌, sym, ap, ◌∙◌, arith}
+use Rattle.std.proofs.Common.{◌+◌, sym, ap, ◌∙◌, arith}
 use Rattle.script.specs.Scripts.{bad_from}
 use Rattle.script.proofs.BadWords.{good_word, bad_word, no_word}
 use Rattle.script.proofs.bad_from.Goals as goal

@@ -1,6 +1,6 @@
-use Rattle.std.proofs.Common.{◌≡◌, suc, length, take, drop, set, Some, sym, ap, ◌∙◌, subst, arith}
+use Rattle.std.proofs.Common.{◌≡◌, suc, length, take, drop, set, ap, ◌∙◌, arith}
 use Rattle.std.proofs.lemmas.List.{map-set, take-set-le, drop-set-lt}
-use Rattle.protocol.specs.Tick.{turned_by, turn, turn_mail}
+use Rattle.protocol.specs.Tick.{turned_by, turn_mail}
 use Rattle.tables.specs.HeadPlaces.{head_of, heads_of}
 use Rattle.tables.specs.MailPlaces.{items_of}
 use Rattle.tables.specs.Turns.{turn_of}
