@@ -1,6 +1,6 @@
 -- A call that is not refused has passed each of its checks.
 use Rattle.std.proofs.Common.{◌≡◌, ℕ, Bool, true, false, cond, List, [], ◌∷◌, Some, None, Option, refl, arith}
-use Rattle.std.specs.List.{AllByRecursion as All}
+use Rattle.std.specs.List.{AllByRecursion}
 use Rattle.protocol.specs.declared.refusal.Refusal.{Refusal}
 use Rattle.protocol.specs.Sites.{refused_by}
 
@@ -9,7 +9,7 @@ one_passed true why rest e = let z : ◌≡◌ {A = ℕ} 0 1 = cc in absurd (ome
 one_passed false why rest e = (refl, e)
 
 pub record Passed (cs : List (Bool × Refusal)) (rest : Option Refusal) : Type 0 where
-  pub checks : All (λ c. c.0 ≡ false) cs
+  pub checks : AllByRecursion (λ c. c.0 ≡ false) cs
   pub rest_none : rest ≡ None
 
 pub passed : (cs : List (Bool × Refusal)) (rest : Option Refusal) → refused_by cs rest ≡ None → Passed cs rest

@@ -1,6 +1,6 @@
 -- No run meets refusal 6, 7 or the log's 31, and the clock can always be moved on.
 use Rattle.std.proofs.Common.{◌≡◌, ℕ, ◌<◌, Bool, true, false, not, List, [], ◌∷◌, is_some, Some, None, Option, sym, refl, ap, ◌∙◌}
-use Rattle.std.specs.List.{AllByRecursion as All}
+use Rattle.std.specs.List.{AllByRecursion}
 use Rattle.std.proofs.lemmas.Bool.{or_from, lt-leb, false≢true, true≢false}
 use Rattle.protocol.specs.declared.state.HeadState.TheVariants.{Stranded}
 use Rattle.protocol.specs.declared.kind.MailKind.{MailKind}
@@ -28,7 +28,7 @@ use Rattle.law.proofs.Wells.{Well, well, stamp_limit}
 use Rattle.law.proofs.Singles.{told_first}
 use Rattle.law.proofs.Rooms.{bad, told_itself, present_here, own_tables, holds_enough, tick_room, refusal_fine, answer_fine}
 
-pub none_refused : (cs : List (Bool × Refusal)) → All (λ c. c.0 ≡ false) cs → refused_by cs None ≡ None
+pub none_refused : (cs : List (Bool × Refusal)) → AllByRecursion (λ c. c.0 ≡ false) cs → refused_by cs None ≡ None
 none_refused [] a = refl
 none_refused (c ∷ cs) a = let e = a.0 in rw e (none_refused cs a.1)
 
@@ -66,7 +66,7 @@ module _ {V : Type 0} (lawful : V → Bool) (m : Setup V) (f : Fits lawful m) (s
 in_bounds_from : {V : Type 0} (a : Answer V) → ((why : Refusal) → refusal_told a ≡ Some why → bad why ≡ false) → AnswerInBounds a
 in_bounds_from a f = record { own_tables = λ e. true≢false (f _ e); room = λ e. true≢false (f _ e); sound = λ e. true≢false (f _ e) }
 
-pub answers_in_bounds : {V : Type 0} (lawful : V → Bool) (m : Setup V) → Fits lawful m → {es : History V} {s : State V} → Reached lawful m es s → All (λ e. AnswerInBounds e.answer) es
+pub answers_in_bounds : {V : Type 0} (lawful : V → Bool) (m : Setup V) → Fits lawful m → {es : History V} {s : State V} → Reached lawful m es s → AllByRecursion (λ e. AnswerInBounds e.answer) es
 answers_in_bounds lawful m f (made d) = tt
 answers_in_bounds lawful m f (then {es} {s} {t} {c} {a} r st) = (in_bounds_from a (step_fine lawful m f s (well lawful m f r) st), answers_in_bounds lawful m f r)
 

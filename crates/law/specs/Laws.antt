@@ -1,6 +1,6 @@
 -- The law of the register over whole runs, for every kind of value and every log.
 use Rattle.std.specs.Prelude.{◌≡◌, ◌-◌, ◌*◌, ◌<◌, ◌≤◌, Bool, true, false, [], ◌∷◌, is_some, Some, None, ◌≢◌}
-use Rattle.std.specs.List.{AllByRecursion as All}
+use Rattle.std.specs.List.{AllByRecursion}
 use Rattle.logs.specs.declared.entry.LogRefusal.TheVariants.{Unsound}
 use Rattle.protocol.specs.declared.state.HeadState.TheVariants.{Stranded}
 use Rattle.protocol.specs.declared.refusal.Refusal.TheVariants.{ForeignTables, NoRoom, Log}
@@ -56,8 +56,8 @@ pub record AnswerInBounds {V : Type 0} (a : Answer V) : Type 0 where
   pub sound : refusal_told a ≡ Some (Log Unsound) → ⊥
 
 pub record InBounds {V : Type 0} (es : History V) (s : State V) : Type 0 where
-  pub answers : All (λ e. AnswerInBounds e.answer) es
-  pub heads : All (λ h. h.state ≢ Stranded) s.heads
+  pub answers : AllByRecursion (λ e. AnswerInBounds e.answer) es
+  pub heads : AllByRecursion (λ h. h.state ≢ Stranded) s.heads
 
 -- no call of a run is refused for its tables, for room or for an unsound entry, and nobody is ever stranded
 abbrev pub AlwaysInBounds : Type 0 → Type 0
@@ -65,8 +65,8 @@ AlwaysInBounds V = (lawful : V → Bool) (m : Setup V) → Fits lawful m → Low
 
 -- each item that is due can be brought, and bringing takes that very item; when none is due the clock moves on until the last tick
 pub record ClockProgress {V : Type 0} (s : State V) : Type 0 where
-  pub brought : All (λ i. is_due s.site.delay s.site.time i ≡ true → bring_refusal s (kind_of i) (sender_of i) (receiver_of i) ≡ None) s.items
-  pub itself : All (λ i. is_due s.site.delay s.site.time i ≡ true → first (is_told (kind_of i) (sender_of i) (receiver_of i)) s.items ≡ Some i) s.items
+  pub brought : AllByRecursion (λ i. is_due s.site.delay s.site.time i ≡ true → bring_refusal s (kind_of i) (sender_of i) (receiver_of i) ≡ None) s.items
+  pub itself : AllByRecursion (λ i. is_due s.site.delay s.site.time i ≡ true → first (is_told (kind_of i) (sender_of i) (receiver_of i)) s.items ≡ Some i) s.items
   pub ticks : s.site.time < last_tick → is_some (first (is_due s.site.delay s.site.time) s.items) ≡ false → tick_refusal s ≡ None
 
 abbrev pub AlwaysProgress : Type 0 → Type 0
