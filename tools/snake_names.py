@@ -4,9 +4,9 @@
 usage: python3 tools/snake_names.py [--names] [FOLDER]
 
 Run once, at the top of a repository that port.py has turned, or on FOLDER. It renames what the files of specs/ and the lemma files
-of proofs/ declare with a hyphen: definitions, lemmas, fields, constructors and the names that imports give. What the check makes (the goals of a function) and what
-the library declares keep their names, as do strings and comments. Names that would fall together with another are listed and left.
-With --names it lists what it would rename, and writes nothing.
+of proofs/ declare with a hyphen: definitions, lemmas, fields, constructors and the names that imports give. What the check makes
+(the goals of a function) and what the library declares keep their names, as do strings and comments. Names whose new spelling stands
+beside them already are renamed too, and listed, to be looked at. With --names it lists what it would rename, and writes nothing.
 """
 
 import os
