@@ -1,6 +1,5 @@
 pub mod BringSteps
 pub mod Checks
-pub mod Logged
 pub mod MakeSteps
 pub mod Named
 pub mod ReadSteps

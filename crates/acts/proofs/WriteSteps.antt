@@ -116,7 +116,7 @@ module _ {V : Type 0} (lawful : V → Bool) (u : Site) (hs : List (Head V)) (ms 
       pub write_full : false ≡ leb (length (items_of ms) + length (names_but i hs)) (length ms) → (ns : List (MailPlace V)) → ns ≡ ms → Step lawful s (Write x v) (Refused NoRoom) (lent u hs ns m)
       write_full e ns left = refused NoRoom (refusal_by e) refl (ap (λ qs. lent u hs qs m) left)
 
-      pub write_begun : true ≡ leb (length (items_of ms) + length (names_but i hs)) (length ms) → (ns : List (MailPlace V)) → IsPermutation (items_of ns) (items_of ms ++ items_of (map (addressed p) (names_but i hs))) → length ns ≡ length ms → (ks : List (Head V)) → ks ≡ set hs i w → (t : Site) → t ≡ write_site u x → (z : ℤ) → z ≡ w.stamp → Step lawful s (Write x v) (Written z) (lent t ks ns m)
+      pub write_begun : true ≡ leb (length (items_of ms) + length (names_but i hs)) (length ms) → (ns : List (MailPlace V)) → IsPermutation (items_of ns) (items_of ms ++ items_of (map (addressed p) (names_but i hs))) → length ns ≡ length ms → (ks : List (Head V)) → ks ≡ set hs i w → (t : Site) → t ≡ write_site u x → (z : ℤ) → z ≡ w.copy.stamp → Step lawful s (Write x v) (Written z) (lent t ks ns m)
       write_begun e ns sent long ks put t after z stamp =
           accepted 0 (refusal_by e) (ap Written (stamp ∙ wr.1.stamp ∙ ap (λ o. pos (next_stamp (copy_by o))) (sym head_is)))
           (record {

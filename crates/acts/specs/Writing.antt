@@ -19,7 +19,7 @@ writer_checks lawful busy h v =
 
 -- w is h with the value and the stamp after its own
 pub record Written {V : Type 0} (h : Head V) (v : V) (w : Head V) : Type 0 where
-  pub stamp : w.stamp ≡ pos (next_stamp (head_of h).copy)
+  pub stamp : w.copy.stamp ≡ pos (next_stamp (head_of h).copy)
   pub head : head_of w ≡ with_copy (Some (record { stamp = next_stamp (head_of h).copy; value = v })) (head_of h)
 
 abbrev pub Writes : {V : Type 0} → (V → Bool) → Bool → Head V → V → Result (Head V) Refusal → Type 0

@@ -1,8 +1,8 @@
 // Whether a site can be made.
-ghost use Rattle.std.specs.Prelude.{◌≡◌, ◌≤◌, false, ◌||◌, ◌==◌, nat_lt};
 ghost use Rattle.logs.specs.Meanings.{Meaning};
 ghost use Rattle.protocol.specs.Make.{make_refusal};
-ghost use Rattle.acts.specs.Making.{setup_of, Passes};
+ghost use Rattle.records.specs.Passing.{Passes};
+ghost use Rattle.acts.specs.Making.{setup_of};
 
 use kinds::value::Value;
 use protocol::refusal::Refusal;
@@ -17,13 +17,14 @@ pub fn check_setup<V: Value>(
 ) -> Result<(), Refusal>
     ensures { (m : Meaning V) → Passes (make_refusal V.Value.lawful (setup_of size places delay swap_limit start m)) result }
 {
-    if is_wrong_count(size) {
+    if !(1..=64).contains(&size) {
         return Err(Refusal::HeadCount);
     }
-    if is_wrong_delay(delay) {
+    if !(1..=16).contains(&delay) {
         return Err(Refusal::DelayLimit);
     }
-    if size as u64 <= 3 * delay as u64 * swap_limit as u64 {
+    // There is no `u64::from` of a usize, so it is a cast.
+    if size as u64 <= 3 * u64::from(delay) * u64::from(swap_limit) {
         return Err(Refusal::ChurnLimit);
     }
     if places < size * size {
@@ -33,20 +34,4 @@ pub fn check_setup<V: Value>(
         return Err(Refusal::StartUnlawful);
     }
     Ok(())
-}
-
-// Whether the heads are none, or more than 64.
-fn is_wrong_count(size: usize) -> bool
-    ensures told { result ≡ (size == 0 || nat_lt 64 size) }
-    ensures few { result ≡ false → size ≤ 64 }
-{
-    size == 0 || 64 < size
-}
-
-// Whether the delay limit is outside 1 to 16.
-fn is_wrong_delay(delay: u32) -> bool
-    ensures told { result ≡ (delay == 0 || nat_lt 16 delay) }
-    ensures short { result ≡ false → delay ≤ 16 }
-{
-    delay == 0 || 16 < delay
 }

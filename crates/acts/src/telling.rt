@@ -10,17 +10,12 @@ use tables::head::Head;
 pub fn is_active(state: HeadState) -> bool
     ensures { result ≡ is_active state }
 {
-    match state {
-        HeadState::Listening => false,
-        HeadState::Inquiring => false,
-        HeadState::Active => true,
-        HeadState::Stranded => false,
-    }
+    state == HeadState::Active
 }
 
-// The stamp of the head's copy, −1 where it has none.
+// The stamp of the head's copy, −1 where it has none: it is told as a signed stamp, by the rules.
 pub fn copy_stamp<V: Copy>(h: Head<V>) -> i64
     ensures { result ≡ signed_stamp (head_of h).copy }
 {
-    if 0 <= h.stamp { h.stamp } else { -1 }
+    h.copy.stamp.max(-1)
 }

@@ -7,15 +7,15 @@ ghost use Rattle.tables.specs.HeadPlaces.{head_of};
 ghost use Rattle.tables.specs.MailPlaces.{item_of, addressed};
 ghost use Rattle.acts.specs.Writing.{Writes, Written};
 
-use crate::telling::is_active;
+use crate::telling::{copy_stamp, is_active};
 use kinds::value::Value;
+use logs::entry::LAST_NUMBER;
+use mail::item::item_from;
 use protocol::kind::MailKind;
 use protocol::refusal::Refusal;
+use records::copied::Copied;
 use tables::head::Head;
 use tables::mail::MailPlace;
-
-// The highest stamp.
-const LAST_STAMP: i64 = 268_435_455;
 
 // The head with the value and the stamp after its own, or why it does not write; busy: a write is under way.
 pub fn write_copy<V: Value>(h: Head<V>, value: V, busy: bool) -> Result<Head<V>, Refusal>
@@ -40,7 +40,7 @@ pub fn write_copy<V: Value>(h: Head<V>, value: V, busy: bool) -> Result<Head<V>,
 fn is_last<V: Copy>(h: Head<V>) -> bool
     ensures { result ≡ nat_lt last_number (next_stamp (head_of h).copy) }
 {
-    LAST_STAMP <= h.stamp
+    i64::from(LAST_NUMBER) <= h.copy.stamp
 }
 
 // The head with the value and the stamp after its own; the first stamp where it has no copy.
@@ -48,20 +48,16 @@ fn written<V: Copy>(h: Head<V>, value: V) -> Head<V>
     requires { nat_lt last_number (next_stamp (head_of h).copy) ≡ false }
     ensures { Written h value result }
 {
-    let stamp = if 0 <= h.stamp { h.stamp + 1 } else { 0 };
-    Head { stamp, value, ..h }
+    let stamp = copy_stamp(h) + 1;
+    Head {
+        copy: Copied { stamp, value },
+        ..h
+    }
 }
 
 // The WRITE by which the head with this name sends its copy; whom it goes to is told for each receiver.
 pub fn write_item<V: Copy>(h: Head<V>, name: u32, time: u32) -> MailPlace<V>
     ensures { (b : ℕ) → item_of (addressed result b) ≡ Some (write name b time (head_of h).copy) }
 {
-    MailPlace {
-        kind: Some(MailKind::Write),
-        sender: name,
-        receiver: name,
-        sent: time,
-        stamp: h.stamp,
-        value: h.value,
-    }
+    item_from(MailKind::Write, name, h.copy, time)
 }

@@ -1,5 +1,6 @@
-// The site of the day, and its calls by name.
+// The site of the day, its calls by name, and the lines that it prints.
 use plans::Plan;
+use protocol::answer::Answer;
 use protocol::call::Call;
 use protocol::kind::MailKind;
 use protocol::refusal::Refusal;
@@ -11,59 +12,56 @@ use tables::mail::MailPlace;
 use wordlog::log::WordLog;
 
 #[derive(Drop)]
-pub struct Day<'a> {
+pub struct Day<'a, 'b> {
+    pub rt: &'a HostRuntime,
     pub site: Site,
     pub heads: [Head<Plan>; 4],
     pub mail: [MailPlace<Plan>; 16],
-    pub log: WordLog<'a, Plan>,
+    pub log: WordLog<'b, Plan>,
 }
 
-// Performs a call by name, and prints its line.
-pub(crate) fn ask(rt: &HostRuntime, day: &mut Day, call: Call<Plan>) -> anyhow::Result<()> {
-    let answer = perform(
-        &mut day.site,
-        &mut day.heads,
-        &mut day.mail,
-        &mut day.log,
-        &call,
-    );
-    rt.println(call_line(rt.alloc(), &call, &answer)?)?;
-    Ok(())
-}
+impl Day<'_, '_> {
+    // Performs a call by name, and prints its line.
+    pub(crate) fn ask(&mut self, call: Call<Plan>) -> anyhow::Result<()> {
+        let answer = perform(
+            &mut self.site,
+            &mut self.heads,
+            &mut self.mail,
+            &mut self.log,
+            &call,
+        );
+        self.tell(&call, &answer)
+    }
 
-// Brings the item of this kind from the sender to the receiver.
-pub(crate) fn bring(
-    rt: &HostRuntime,
-    day: &mut Day,
-    kind: MailKind,
-    sender: u32,
-    receiver: u32,
-) -> anyhow::Result<()> {
-    ask(
-        rt,
-        day,
-        Call::Bring {
+    // Brings the item of this kind from the sender to the receiver.
+    pub(crate) fn bring(
+        &mut self,
+        kind: MailKind,
+        sender: u32,
+        receiver: u32,
+    ) -> anyhow::Result<()> {
+        self.ask(Call::Bring {
             kind,
             sender,
             receiver,
-        },
-    )
-}
+        })
+    }
 
-// Prints that the head has got the pass that it asked for.
-pub(crate) fn tell_done(rt: &HostRuntime, asked: &str, name: u32) -> anyhow::Result<()> {
-    rt.println(format!(in rt.alloc(); "{asked} {name} = ok")?)?;
-    Ok(())
-}
+    // Prints the line of a call, by name or by pass.
+    pub(crate) fn tell(&self, call: &Call<Plan>, answer: &Answer<Plan>) -> anyhow::Result<()> {
+        self.rt.println(call_line(self.rt.alloc(), call, answer)?)?;
+        Ok(())
+    }
 
-// Prints why the head has to wait for the pass that it asked for.
-pub(crate) fn tell_refused(
-    rt: &HostRuntime,
-    asked: &str,
-    name: u32,
-    why: Refusal,
-) -> anyhow::Result<()> {
-    let number = why.number();
-    rt.println(format!(in rt.alloc(); "{asked} {name} ! {number}")?)?;
-    Ok(())
+    // Prints that the head has got the pass that it asked for.
+    pub(crate) fn tell_done(&self, asked: &str, name: u32) -> anyhow::Result<()> {
+        println!(self.rt; "{asked} {name} = ok")?;
+        Ok(())
+    }
+
+    // Prints why the head has to wait for the pass that it asked for.
+    pub(crate) fn tell_refused(&self, asked: &str, name: u32, why: Refusal) -> anyhow::Result<()> {
+        println!(self.rt; "{asked} {name} ! {why}")?;
+        Ok(())
+    }
 }

@@ -2,9 +2,10 @@
 #![tactic(auto)]
 
 use crate::day::Day;
-use crate::stages::{finish, learn, read, swap_in, swap_out, write};
 use plans::Plan;
 use protocol::state::HeadState;
+use records::copied::Copied;
+use records::names::Names;
 use register::make;
 use sitelines::make_line;
 use tables::head::Head;
@@ -21,59 +22,58 @@ const START: Plan = Plan {
     green: 40,
 };
 
+// No place means anything before the site is made.
+const NO_COPY: Copied<Plan> = Copied {
+    stamp: -1,
+    value: START,
+};
+
 fn main(rt: HostRuntime) -> anyhow::Result<()> {
     run(&rt)
 }
 
-// Four heads, mail within a tick, one swap a tick. What the places hold before means nothing.
+// Four heads, mail within a tick, one swap a tick.
 fn run(rt: &HostRuntime) -> anyhow::Result<()> {
     let mut heads = [Head {
         name: 0,
         state: HeadState::Listening,
-        stamp: -1,
-        value: START,
+        copy: NO_COPY,
         swap_tick: 0,
         inquiry_tick: 0,
-        best_stamp: -1,
-        best_value: START,
-        held: [0; 64],
-        held_count: 0,
+        best: NO_COPY,
+        held: Names::new(),
     }; 4];
     let mut mail = [MailPlace {
         kind: None,
         sender: 0,
         receiver: 0,
         sent: 0,
-        stamp: -1,
-        value: START,
+        copy: NO_COPY,
     }; 16];
     let mut words = [0; 12];
     let log = WordLog::open(&mut words);
-    match make(&mut heads, &mut mail, &log, 1, 1, START) {
-        Ok(site) => {
-            rt.println(make_line(rt.alloc(), None)?)?;
-            let mut day = Day {
-                site,
-                heads,
-                mail,
-                log,
-            };
-            work(rt, &mut day)
-        }
-        Err(why) => {
-            rt.println(make_line(rt.alloc(), Some(why))?)?;
-            Ok(())
-        }
-    }
+    let made = make(&mut heads, &mut mail, &log, 1, 1, START);
+    rt.println(make_line(rt.alloc(), &made)?)?;
+    let Ok(site) = made else {
+        return Ok(());
+    };
+    let mut day = Day {
+        rt,
+        site,
+        heads,
+        mail,
+        log,
+    };
+    work(&mut day)
 }
 
 // The stages of the day, each with the pass that the one before gave.
-fn work(rt: &HostRuntime, day: &mut Day) -> anyhow::Result<()> {
-    let (name, newcomer) = swap_in(rt, day, 2)?;
-    let member = learn(rt, day, name, newcomer)?;
-    read(rt, day, name, &member)?;
-    let writer = write(rt, day, name, member)?;
-    let member = finish(rt, day, name, writer)?;
-    read(rt, day, name, &member)?;
-    swap_out(rt, day, name, member)
+fn work(day: &mut Day) -> anyhow::Result<()> {
+    let newcomer = day.swap_in(2)?;
+    let member = day.learn(newcomer)?;
+    day.read(&member)?;
+    let writer = day.write(member)?;
+    let member = day.finish(writer)?;
+    day.read(&member)?;
+    day.swap_out(member)
 }

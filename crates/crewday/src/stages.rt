@@ -1,12 +1,12 @@
 // The stages of the day. A stage that goes another way ends the day.
-use crate::day::{Day, ask, bring, tell_done, tell_refused};
-use anyhow::anyhow;
-use passes::{Member, Newcomer, Writer};
+use crate::day::Day;
+use anyhow::{Context, bail};
+use passes::swapping::Leaving;
+use passes::{Member, Newcomer, Refused, Writer};
 use plans::Plan;
 use protocol::answer::Answer;
 use protocol::call::Call;
 use protocol::kind::MailKind;
-use sitelines::call_line;
 
 // The heads that stay all day.
 const OTHERS: [u32; 3] = [1, 3, 4];
@@ -18,150 +18,118 @@ const NEXT: Plan = Plan {
     green: 50,
 };
 
-// A newcomer takes the place of the old head, and gets its pass.
-pub(crate) fn swap_in(
-    rt: &HostRuntime,
-    day: &mut Day,
-    old: u32,
-) -> anyhow::Result<(u32, Newcomer)> {
-    let leaving = admit(rt, day, old)?;
-    match leaving.swap(&mut day.site, &mut day.heads, &mut day.mail) {
-        Ok(name) => {
-            tell(rt, Call::Swap { name: old }, Answer::Swapped { name })?;
-            Ok((name, admit(rt, day, name)?))
+// A head by its name, and the pass that it holds.
+#[derive(Drop)]
+pub struct Holder<P> {
+    pub name: u32,
+    pub pass: P,
+}
+
+impl Day<'_, '_> {
+    // A newcomer takes the place of the old head, and gets its pass.
+    pub(crate) fn swap_in(&mut self, old: u32) -> anyhow::Result<Holder<Newcomer>> {
+        let leaving = self.admit(old)?;
+        let name = leaving
+            .pass
+            .swap(&mut self.site, &mut self.heads, &mut self.mail)
+            .ok()
+            .context("no swap")?;
+        self.tell(&Call::Swap { name: old }, &Answer::Swapped { name })?;
+        self.admit(name)
+    }
+
+    fn admit(&self, name: u32) -> anyhow::Result<Holder<Newcomer>> {
+        let pass = Newcomer::of(&self.site, &self.heads, &self.mail, name)
+            .ok()
+            .context("no newcomer")?;
+        self.tell_done("newcomer", name)?;
+        Ok(Holder { name, pass })
+    }
+
+    // The newcomer listens for a tick and inquires for two; then it is a member.
+    pub(crate) fn learn(&mut self, newcomer: Holder<Newcomer>) -> anyhow::Result<Holder<Member>> {
+        let listening = self.not_yet(newcomer)?;
+        self.ask(Call::Tick)?;
+        let Holder { name, pass } = self.not_yet(listening)?;
+        for other in OTHERS {
+            self.bring(MailKind::Inquiry, name, other)?;
         }
-        Err(_) => Err(anyhow!("no swap")),
-    }
-}
-
-fn admit(rt: &HostRuntime, day: &Day, name: u32) -> anyhow::Result<Newcomer> {
-    match Newcomer::of(&day.site, &day.heads, &day.mail, name) {
-        Ok(newcomer) => {
-            tell_done(rt, "newcomer", name)?;
-            Ok(newcomer)
+        for other in OTHERS {
+            self.bring(MailKind::Reply, other, name)?;
         }
-        Err(_) => Err(anyhow!("no newcomer")),
+        self.ask(Call::Tick)?;
+        self.ask(Call::Tick)?;
+        let pass = pass
+            .promote(&self.site, &self.heads, &self.mail)
+            .ok()
+            .context("no member")?;
+        self.tell_done("promote", name)?;
+        Ok(Holder { name, pass })
     }
-}
 
-// The newcomer listens for a tick and inquires for two; then it is a member.
-pub(crate) fn learn(
-    rt: &HostRuntime,
-    day: &mut Day,
-    name: u32,
-    newcomer: Newcomer,
-) -> anyhow::Result<Member> {
-    let listening = not_yet(rt, day, name, newcomer)?;
-    ask(rt, day, Call::Tick)?;
-    let inquiring = not_yet(rt, day, name, listening)?;
-    for other in OTHERS {
-        bring(rt, day, MailKind::Inquiry, name, other)?;
+    // A head that learns is no member yet, and keeps its pass.
+    fn not_yet(&self, learner: Holder<Newcomer>) -> anyhow::Result<Holder<Newcomer>> {
+        let Holder { name, pass } = learner;
+        let Err(Refused { pass, why }) = pass.promote(&self.site, &self.heads, &self.mail) else {
+            bail!("a member too early");
+        };
+        self.tell_refused("promote", name, why)?;
+        Ok(Holder { name, pass })
     }
-    for other in OTHERS {
-        bring(rt, day, MailKind::Reply, other, name)?;
+
+    // The member reads the plan.
+    pub(crate) fn read(&mut self, member: &Holder<Member>) -> anyhow::Result<()> {
+        let Holder { name, pass } = member;
+        let (stamp, value) = pass
+            .read(&self.site, &self.heads, &self.mail, &mut self.log)
+            .ok()
+            .context("no value")?;
+        self.tell(&Call::Read { name: *name }, &Answer::Value { stamp, value })
     }
-    ask(rt, day, Call::Tick)?;
-    ask(rt, day, Call::Tick)?;
-    match inquiring.promote(&day.site, &day.heads, &day.mail) {
-        Ok(member) => {
-            tell_done(rt, "promote", name)?;
-            Ok(member)
+
+    // The member writes the next plan, and is a writer.
+    pub(crate) fn write(&mut self, member: Holder<Member>) -> anyhow::Result<Holder<Writer>> {
+        let Holder { name, pass } = member;
+        let (pass, stamp) = pass
+            .write(&mut self.site, &mut self.heads, &mut self.mail, NEXT)
+            .ok()
+            .context("no write")?;
+        self.tell(
+            &Call::Write { name, value: NEXT },
+            &Answer::Written { stamp },
+        )?;
+        Ok(Holder { name, pass })
+    }
+
+    // The writer waits until its write is finished, and is a member again.
+    pub(crate) fn finish(&mut self, writer: Holder<Writer>) -> anyhow::Result<Holder<Member>> {
+        let Holder { name, pass } = self.not_finished(writer)?;
+        for other in OTHERS {
+            self.bring(MailKind::Write, name, other)?;
         }
-        Err(_) => Err(anyhow!("no member")),
+        self.ask(Call::Tick)?;
+        let pass = pass.finish(&self.site).ok().context("no end of the write")?;
+        self.tell_done("finish", name)?;
+        Ok(Holder { name, pass })
     }
-}
 
-// A head that learns is no member yet, and keeps its pass.
-fn not_yet(rt: &HostRuntime, day: &Day, name: u32, newcomer: Newcomer) -> anyhow::Result<Newcomer> {
-    match newcomer.promote(&day.site, &day.heads, &day.mail) {
-        Ok(_) => Err(anyhow!("a member too early")),
-        Err((same, why)) => {
-            tell_refused(rt, "promote", name, why)?;
-            Ok(same)
-        }
+    // A head whose write is under way is no member, and keeps its pass.
+    fn not_finished(&self, writer: Holder<Writer>) -> anyhow::Result<Holder<Writer>> {
+        let Holder { name, pass } = writer;
+        let Err(Refused { pass, why }) = pass.finish(&self.site) else {
+            bail!("finished too early");
+        };
+        self.tell_refused("finish", name, why)?;
+        Ok(Holder { name, pass })
     }
-}
 
-// The member reads the plan.
-pub(crate) fn read(
-    rt: &HostRuntime,
-    day: &mut Day,
-    name: u32,
-    member: &Member,
-) -> anyhow::Result<()> {
-    match member.read(&day.site, &day.heads, &day.mail, &mut day.log) {
-        Ok((stamp, value)) => tell(rt, Call::Read { name }, Answer::Value { stamp, value }),
-        Err(_) => Err(anyhow!("no value")),
+    // The member leaves, and its pass with it.
+    pub(crate) fn swap_out(&mut self, member: Holder<Member>) -> anyhow::Result<()> {
+        let Holder { name, pass } = member;
+        let next = pass
+            .swap(&mut self.site, &mut self.heads, &mut self.mail)
+            .ok()
+            .context("no swap")?;
+        self.tell(&Call::Swap { name }, &Answer::Swapped { name: next })
     }
-}
-
-// The member writes the next plan, and is a writer.
-pub(crate) fn write(
-    rt: &HostRuntime,
-    day: &mut Day,
-    name: u32,
-    member: Member,
-) -> anyhow::Result<Writer> {
-    match member.write(&mut day.site, &mut day.heads, &mut day.mail, NEXT) {
-        Ok((writer, stamp)) => {
-            tell(
-                rt,
-                Call::Write { name, value: NEXT },
-                Answer::Written { stamp },
-            )?;
-            Ok(writer)
-        }
-        Err(_) => Err(anyhow!("no write")),
-    }
-}
-
-// The writer waits until its write is finished, and is a member again.
-pub(crate) fn finish(
-    rt: &HostRuntime,
-    day: &mut Day,
-    name: u32,
-    writer: Writer,
-) -> anyhow::Result<Member> {
-    let waiting = not_finished(rt, day, name, writer)?;
-    for other in OTHERS {
-        bring(rt, day, MailKind::Write, name, other)?;
-    }
-    ask(rt, day, Call::Tick)?;
-    match waiting.finish(&day.site) {
-        Ok(member) => {
-            tell_done(rt, "finish", name)?;
-            Ok(member)
-        }
-        Err(_) => Err(anyhow!("no end of the write")),
-    }
-}
-
-// A head whose write is under way is no member, and keeps its pass.
-fn not_finished(rt: &HostRuntime, day: &Day, name: u32, writer: Writer) -> anyhow::Result<Writer> {
-    match writer.finish(&day.site) {
-        Ok(_) => Err(anyhow!("finished too early")),
-        Err((same, why)) => {
-            tell_refused(rt, "finish", name, why)?;
-            Ok(same)
-        }
-    }
-}
-
-// The member leaves, and its pass with it.
-pub(crate) fn swap_out(
-    rt: &HostRuntime,
-    day: &mut Day,
-    name: u32,
-    member: Member,
-) -> anyhow::Result<()> {
-    match member.swap(&mut day.site, &mut day.heads, &mut day.mail) {
-        Ok(next) => tell(rt, Call::Swap { name }, Answer::Swapped { name: next }),
-        Err(_) => Err(anyhow!("no swap")),
-    }
-}
-
-// Prints the line of a call by pass, as that of the same call by name.
-fn tell(rt: &HostRuntime, call: Call<Plan>, answer: Answer<Plan>) -> anyhow::Result<()> {
-    rt.println(call_line(rt.alloc(), &call, &answer)?)?;
-    Ok(())
 }

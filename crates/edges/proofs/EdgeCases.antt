@@ -1,9 +1,8 @@
 -- The edges hold.
-use Rattle.std.proofs.Common.{◌≡◌, ℕ, zero, suc, ◌-◌, ◌*◌, ◌/◌, Bool, cond, eqb, [], ◌∷◌, Some, None, refl, ap, ◌∙◌, ap₂, arith}
+use Rattle.std.proofs.Common.{◌≡◌, ℕ, zero, suc, ◌-◌, ◌*◌, ◌/◌, Bool, cond, eqb, Some, None, refl, ap, ◌∙◌, arith, rules}
 use Rattle.std.proofs.lemmas.Bool.{cond-true, eq-eqb}
 use Rattle.plans.specs.Plans.{plan_lawful, plan_built}
-use Rattle.plans.proofs.PlanParts.{plan_judged}
-use Rattle.modes.proofs.ModeParts.{mode_judged}
+use Rattle.modes.specs.declared.Mode.TheVariants.{Fixed}
 use Rattle.logs.specs.declared.entry.LogRefusal.TheVariants.{Unsound, Full}
 use Rattle.logs.specs.Entries.{sound}
 use Rattle.logs.specs.Meanings.{Meaning, added}
@@ -19,16 +18,16 @@ takes_free lawful zero m f =
 takes_free lawful (suc n) m f = λ e s. (takes lawful m e s (λ z. omega arith), takes_free lawful n (added m e) (omega arith))
 
 plans_on : (words n : ℕ) → words / 6 ≡ n → PlansOn words n
-plans_on words n q s e l = takes_free plan_lawful n (word_meaning 3 plan_built s) (ap₂ (λ w k. (w - k * 6) / 6) l e ∙ (ap (λ w. w / 6) (let f : words - 0 * 6 ≡ words = omega arith in f) ∙ q))
+plans_on words n q ws l = takes_free plan_lawful n (word_meaning 3 plan_built 0 ws) (ap (λ w. (w - 0 * 6) / 6) l ∙ (ap (λ w. w / 6) (let f : words - 0 * 6 ≡ words = omega arith in f) ∙ q))
 
 pub edges : Edges
 edges =
     record {
-      plan_30_29_25 = plan_judged (30 ∷ (29 ∷ (25 ∷ [])));
-      plan_30_30_25 = plan_judged (30 ∷ (30 ∷ (25 ∷ [])));
-      plan_30_29_26 = plan_judged (30 ∷ (29 ∷ (26 ∷ [])));
-      mode_1_120 = mode_judged (1 ∷ (120 ∷ []));
-      mode_0_1 = mode_judged (0 ∷ (1 ∷ []));
+      plan_30_29_25 = record { is_lawful = refl; same = refl };
+      plan_30_30_25 = record { before = (record { cycle = 30; offset = 0; green = 5 }, search rules); wrong = search rules; none = search rules };
+      plan_30_29_26 = record { before = (record { cycle = 30; offset = 29; green = 5 }, search rules); wrong = search rules; none = search rules };
+      mode_1_120 = record { is_lawful = refl; same = refl };
+      mode_0_1 = record { before = (Fixed, search rules); wrong = search rules; none = search rules };
       words_12 = plans_on 12 2 refl;
       words_11 = plans_on 11 1 refl;
     }

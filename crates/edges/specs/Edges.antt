@@ -1,5 +1,5 @@
 -- The edges of plans, of modes, of the word log and of make, as one statement about the definitions.
-use Rattle.std.specs.Prelude.{◌≡◌, ℕ, zero, suc, ◌*◌, Bool, true, [], ◌∷◌, length, Some, None, Option}
+use Rattle.std.specs.Prelude.{◌≡◌, ℕ, zero, suc, ◌*◌, Bool, true, List, [], ◌∷◌, length, Some, None, Option}
 use Rattle.std.specs.Option.{option_map}
 use Rattle.kinds.specs.Parts.{PartsOf, FirstWrong}
 use Rattle.plans.specs.declared.Plan.{Plan}
@@ -11,7 +11,6 @@ use Rattle.logs.specs.declared.entry.LogRefusal.TheVariants.{Full}
 use Rattle.logs.specs.Entries.{sound}
 use Rattle.logs.specs.Meanings.{Meaning, add_refusal, added}
 use Rattle.wordlog.specs.WordLogs.{word_meaning}
-use Rattle.wordlog.specs.declared.log.WordLog.{WordLog}
 use Rattle.protocol.specs.Numbers.{refusal_number}
 use Rattle.protocol.specs.Make.{make_refusal}
 
@@ -22,7 +21,7 @@ TakesExactly {V} lawful (suc n) m = (e : Entry V) → sound lawful e ≡ true �
 
 -- an empty log of plans over this many words takes exactly n entries
 abbrev pub PlansOn : ℕ → ℕ → Type 0
-PlansOn words n = (s : WordLog Plan) → s.filled ≡ 0 → length s.words.now ≡ words → TakesExactly plan_lawful n (word_meaning 3 plan_built s)
+PlansOn words n = (ws : List ℕ) → length ws ≡ words → TakesExactly plan_lawful n (word_meaning 3 plan_built 0 ws)
 
 -- the edges of the kinds and of the word log
 pub record Edges : Type 0 where

@@ -1,20 +1,11 @@
 // What happens to the places of the heads.
-ghost use Rattle.std.specs.Prelude.{◌≡◌, ◌-◌, ◌^◌, ◌<◌, ◌≤◌, map, length, slice_set};
+ghost use Rattle.std.specs.Prelude.{◌≡◌, ◌^◌, ◌<◌, ◌≤◌, map, length};
 ghost use Rattle.protocol.specs.Heads.{forgetting};
 ghost use Rattle.protocol.specs.Make.{originals};
 ghost use Rattle.tables.specs.HeadPlaces.{heads_of, lacking};
 
 use crate::changes::{forget, original};
 use tables::head::Head;
-
-// Puts a head into this place.
-pub fn put_head<V: Copy>(heads: &mut [Head<V>], i: usize, h: Head<V>)
-    ensures { heads.new ≡ slice_set heads.old i h }
-{
-    if i < heads.len() {
-        heads[i] = h;
-    }
-}
 
 // No head holds this name any more.
 pub fn forget_everywhere<V: Copy>(heads: &mut [Head<V>], name: u32)
@@ -34,6 +25,7 @@ pub fn fill<V: Copy>(heads: &mut [Head<V>], start: V)
     if heads.len() > u32::MAX as usize {
         return;
     }
+    // the casts lose nothing, which is proved; a conversion would have an error that cannot come
     for (i, h) in heads.iter_mut().enumerate() {
         *h = original(*h, i as u32 + 1, start);
     }

@@ -7,6 +7,7 @@ ghost use Rattle.tables.specs.FirstPlaces.{place_of};
 use tables::head::Head;
 
 // The place of the head with this name.
+// Searches and counts over the lent tables are written out as loops here, by a rule of this project.
 pub fn find<V: Copy>(heads: &[Head<V>], name: u32) -> Option<usize>
     ensures { result ≡ place_of (λ h. is_named name (head_of h)) heads.now }
 {

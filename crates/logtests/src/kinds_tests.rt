@@ -4,41 +4,34 @@ use modes::Mode;
 use plans::Plan;
 use std::test::Fail;
 
-fn plan_fault(numbers: &[u32]) -> Option<usize> {
-    match Plan::from_parts(numbers) {
-        Ok(_) => None,
-        Err(wrong) => Some(wrong.index),
-    }
-}
-
-fn mode_fault(numbers: &[u32]) -> Option<usize> {
-    match Mode::from_parts(numbers) {
-        Ok(_) => None,
-        Err(wrong) => Some(wrong.index),
-    }
+// Whether the numbers are taken back for a value, or else which part is the first wrong one.
+fn judge<V: Loggable>(numbers: &[u32]) -> Result<(), usize> {
+    V::from_parts(numbers)
+        .map(|_| ())
+        .map_err(|wrong| wrong.index)
 }
 
 #[test]
 fn plans_by_their_parts(rt: HostRuntime) {
     let table = [
-        ([30, 29, 25], None),
-        ([30, 30, 25], Some(1)),
-        ([30, 29, 26], Some(2)),
-        ([30, 0, 5], None),
-        ([30, 0, 4], Some(2)),
-        ([29, 0, 5], Some(0)),
-        ([240, 239, 235], None),
-        ([240, 240, 235], Some(1)),
-        ([240, 239, 236], Some(2)),
-        ([241, 0, 5], Some(0)),
-        ([0, 0, 0], Some(0)),
-        ([241, 300, 300], Some(0)),
-        ([100, 300, 300], Some(1)),
-        ([4_294_967_295, 0, 5], Some(0)),
-        ([100, 20, 4_294_967_295], Some(2)),
+        ([30, 29, 25], Ok(())),
+        ([30, 30, 25], Err(1)),
+        ([30, 29, 26], Err(2)),
+        ([30, 0, 5], Ok(())),
+        ([30, 0, 4], Err(2)),
+        ([29, 0, 5], Err(0)),
+        ([240, 239, 235], Ok(())),
+        ([240, 240, 235], Err(1)),
+        ([240, 239, 236], Err(2)),
+        ([241, 0, 5], Err(0)),
+        ([0, 0, 0], Err(0)),
+        ([241, 300, 300], Err(0)),
+        ([100, 300, 300], Err(1)),
+        ([4_294_967_295, 0, 5], Err(0)),
+        ([100, 20, 4_294_967_295], Err(2)),
     ];
     for (numbers, expected) in table {
-        assert_eq!(rt; plan_fault(&numbers), expected);
+        assert_eq!(rt; judge::<Plan>(&numbers), expected);
         let [cycle, offset, green] = numbers;
         assert_eq!(rt;
             Plan {
@@ -47,7 +40,7 @@ fn plans_by_their_parts(rt: HostRuntime) {
                 green,
             }
             .is_lawful(),
-            expected.is_none()
+            expected.is_ok()
         );
     }
 }
@@ -55,20 +48,20 @@ fn plans_by_their_parts(rt: HostRuntime) {
 #[test]
 fn modes_by_their_parts(rt: HostRuntime) {
     let table = [
-        ([0, 0], None),
-        ([0, 1], Some(1)),
-        ([1, 9], Some(1)),
-        ([1, 10], None),
-        ([1, 120], None),
-        ([1, 121], Some(1)),
-        ([2, 0], None),
-        ([2, 268_435_454], None),
-        ([2, 268_435_455], Some(1)),
-        ([3, 0], Some(0)),
-        ([4_294_967_295, 0], Some(0)),
+        ([0, 0], Ok(())),
+        ([0, 1], Err(1)),
+        ([1, 9], Err(1)),
+        ([1, 10], Ok(())),
+        ([1, 120], Ok(())),
+        ([1, 121], Err(1)),
+        ([2, 0], Ok(())),
+        ([2, 268_435_454], Ok(())),
+        ([2, 268_435_455], Err(1)),
+        ([3, 0], Err(0)),
+        ([4_294_967_295, 0], Err(0)),
     ];
     for (numbers, expected) in table {
-        assert_eq!(rt; mode_fault(&numbers), expected);
+        assert_eq!(rt; judge::<Mode>(&numbers), expected);
     }
     assert!(rt; Mode::Fixed.is_lawful());
     assert!(rt; !Mode::Actuated { longest_green: 9 }.is_lawful());
@@ -83,16 +76,16 @@ fn modes_by_their_parts(rt: HostRuntime) {
 // A number that is missing, or one too many, is wrong at its index; a wrong number before it comes first.
 #[test]
 fn numbers_missing_or_too_many(rt: HostRuntime) {
-    assert_eq!(rt; plan_fault(&[]), Some(0));
-    assert_eq!(rt; plan_fault(&[90]), Some(1));
-    assert_eq!(rt; plan_fault(&[90, 10]), Some(2));
-    assert_eq!(rt; plan_fault(&[90, 90]), Some(1));
-    assert_eq!(rt; plan_fault(&[90, 10, 40, 0]), Some(3));
-    assert_eq!(rt; plan_fault(&[90, 10, 86, 0]), Some(2));
-    assert_eq!(rt; mode_fault(&[]), Some(0));
-    assert_eq!(rt; mode_fault(&[1]), Some(1));
-    assert_eq!(rt; mode_fault(&[1, 50, 1]), Some(2));
-    assert_eq!(rt; mode_fault(&[7, 50, 1]), Some(0));
+    assert_eq!(rt; judge::<Plan>(&[]), Err(0));
+    assert_eq!(rt; judge::<Plan>(&[90]), Err(1));
+    assert_eq!(rt; judge::<Plan>(&[90, 10]), Err(2));
+    assert_eq!(rt; judge::<Plan>(&[90, 90]), Err(1));
+    assert_eq!(rt; judge::<Plan>(&[90, 10, 40, 0]), Err(3));
+    assert_eq!(rt; judge::<Plan>(&[90, 10, 86, 0]), Err(2));
+    assert_eq!(rt; judge::<Mode>(&[]), Err(0));
+    assert_eq!(rt; judge::<Mode>(&[1]), Err(1));
+    assert_eq!(rt; judge::<Mode>(&[1, 50, 1]), Err(2));
+    assert_eq!(rt; judge::<Mode>(&[7, 50, 1]), Err(0));
 }
 
 #[test]

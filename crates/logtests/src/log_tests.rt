@@ -1,6 +1,6 @@
 // Logs at their edges: refusals in their order, the last place, dirty memory, places that are not filled.
 use closedlog::ClosedLog;
-use kinds::value::Value;
+use kinds::value::{Loggable, Value};
 use logs::entry::Entry;
 use logs::log::Log;
 use modes::Mode;
@@ -23,20 +23,14 @@ fn plan_entry(tick: u32) -> Entry<Plan> {
     }
 }
 
-// The number of a log's answer to an entry, and 0 where it takes it.
-fn answer<V: Value, L: Log<V>>(log: &mut L, e: &Entry<V>) -> u32 {
-    match log.add(e) {
-        Ok(()) => 0,
-        Err(refusal) => refusal.number(),
-    }
+// A log's answer to an entry: it is taken, or the number of the refusal.
+fn answer<V: Value, L: Log<V>>(log: &mut L, e: &Entry<V>) -> Result<(), u32> {
+    log.add(e).map_err(u32::from)
 }
 
 // The tick of entry i, or the number of the refusal.
 fn tick_at<V: Value, L: Log<V>>(log: &L, i: usize) -> Result<u32, u32> {
-    match log.get(i) {
-        Ok(e) => Ok(e.tick),
-        Err(refusal) => Err(refusal.number()),
-    }
+    log.get(i).map(|e| e.tick).map_err(u32::from)
 }
 
 #[test]
@@ -47,92 +41,26 @@ fn unsound_entries_are_refused_before_a_full_log(rt: HostRuntime) {
         green: 40,
     };
     let table = [
-        (
-            Entry {
-                tick: 268_435_454,
-                name: 1,
-                stamp: 0,
-                value: PLAN,
-            },
-            32,
-        ),
-        (
-            Entry {
-                tick: 0,
-                name: 268_435_455,
-                stamp: 268_435_455,
-                value: PLAN,
-            },
-            32,
-        ),
-        (
-            Entry {
-                tick: 268_435_455,
-                name: 1,
-                stamp: 0,
-                value: PLAN,
-            },
-            31,
-        ),
-        (
-            Entry {
-                tick: 0,
-                name: 0,
-                stamp: 0,
-                value: PLAN,
-            },
-            31,
-        ),
-        (
-            Entry {
-                tick: 0,
-                name: 268_435_456,
-                stamp: 0,
-                value: PLAN,
-            },
-            31,
-        ),
-        (
-            Entry {
-                tick: 0,
-                name: 1,
-                stamp: -1,
-                value: PLAN,
-            },
-            31,
-        ),
-        (
-            Entry {
-                tick: 0,
-                name: 1,
-                stamp: 268_435_456,
-                value: PLAN,
-            },
-            31,
-        ),
-        (
-            Entry {
-                tick: 0,
-                name: 1,
-                stamp: 4_294_967_296,
-                value: PLAN,
-            },
-            31,
-        ),
-        (
-            Entry {
-                tick: 0,
-                name: 1,
-                stamp: 0,
-                value: lawless,
-            },
-            31,
-        ),
+        (268_435_454, 1, 0, PLAN, Err(32)),
+        (0, 268_435_455, 268_435_455, PLAN, Err(32)),
+        (268_435_455, 1, 0, PLAN, Err(31)),
+        (0, 0, 0, PLAN, Err(31)),
+        (0, 268_435_456, 0, PLAN, Err(31)),
+        (0, 1, -1, PLAN, Err(31)),
+        (0, 1, 268_435_456, PLAN, Err(31)),
+        (0, 1, 4_294_967_296, PLAN, Err(31)),
+        (0, 1, 0, lawless, Err(31)),
     ];
     let mut words = [0u32; 5];
     let mut full = WordLog::<Plan>::open(&mut words);
     let mut closed = ClosedLog;
-    for (e, expected) in table {
+    for (tick, name, stamp, value, expected) in table {
+        let e = Entry {
+            tick,
+            name,
+            stamp,
+            value,
+        };
         assert_eq!(rt; answer(&mut full, &e), expected);
         assert_eq!(rt; answer(&mut closed, &e), expected);
     }
@@ -146,7 +74,7 @@ fn a_record_log_fills_its_last_place(rt: HostRuntime) {
         let mut log = RecordLog::open(&mut places);
         assert_eq!(rt; (log.count(), log.free()), (0, 2));
         assert_eq!(rt; tick_at(&log, 0), Err(33));
-        assert_eq!(rt; answer(&mut log, &plan_entry(3)), 0);
+        assert_eq!(rt; answer(&mut log, &plan_entry(3)), Ok(()));
         assert_eq!(rt;
             (log.count(), log.free(), tick_at(&log, 0), tick_at(&log, 1)),
             (1, 1, Ok(3), Err(33))
@@ -154,9 +82,9 @@ fn a_record_log_fills_its_last_place(rt: HostRuntime) {
     }
     assert_eq!(rt; (places[0].tick, places[1].tick), (3, 77));
     let mut log = RecordLog::open(&mut places);
-    assert_eq!(rt; answer(&mut log, &plan_entry(4)), 0);
-    assert_eq!(rt; answer(&mut log, &plan_entry(5)), 0);
-    assert_eq!(rt; answer(&mut log, &plan_entry(6)), 32);
+    assert_eq!(rt; answer(&mut log, &plan_entry(4)), Ok(()));
+    assert_eq!(rt; answer(&mut log, &plan_entry(5)), Ok(()));
+    assert_eq!(rt; answer(&mut log, &plan_entry(6)), Err(32));
     assert_eq!(rt;
         (log.count(), log.free(), tick_at(&log, 1), tick_at(&log, 2)),
         (2, 0, Ok(5), Err(33))
@@ -164,16 +92,10 @@ fn a_record_log_fills_its_last_place(rt: HostRuntime) {
 }
 
 // How many entries the first words of an array can take, at most 13.
-fn plans_on(length: usize) -> usize {
+fn entries_on<V: Loggable>(length: usize) -> usize {
     let mut words = [0u32; 13];
     let end = length.min(13);
-    WordLog::<Plan>::open(&mut words[0..end]).free()
-}
-
-fn modes_on(length: usize) -> usize {
-    let mut words = [0u32; 13];
-    let end = length.min(13);
-    WordLog::<Mode>::open(&mut words[0..end]).free()
+    WordLog::<V>::open(&mut words[..end]).free()
 }
 
 // Free is the unused words by the size of an entry, rounded down.
@@ -187,7 +109,10 @@ fn word_logs_by_their_words(rt: HostRuntime) {
         (12, 2, 2),
         (13, 2, 2),
     ] {
-        assert_eq!(rt; (plans_on(length), modes_on(length)), (plans, modes));
+        assert_eq!(rt;
+            (entries_on::<Plan>(length), entries_on::<Mode>(length)),
+            (plans, modes)
+        );
     }
 }
 
@@ -211,8 +136,8 @@ fn a_word_log_over_dirty_words(rt: HostRuntime) {
                 green: 50,
             },
         };
-        assert_eq!(rt; answer(&mut log, &e), 0);
-        assert_eq!(rt; answer(&mut log, &e), 32);
+        assert_eq!(rt; answer(&mut log, &e), Ok(()));
+        assert_eq!(rt; answer(&mut log, &e), Err(32));
         assert_eq!(rt;
             (log.count(), log.free(), tick_at(&log, 0), tick_at(&log, 1)),
             (1, 0, Ok(3), Err(33))
@@ -245,15 +170,15 @@ fn a_mode_log_in_words(rt: HostRuntime) {
             stamp: 268_435_455,
             value: Mode::Actuated { longest_green: 120 },
         };
-        assert_eq!(rt; answer(&mut log, &first), 0);
+        assert_eq!(rt; answer(&mut log, &first), Ok(()));
         let second = Entry {
             tick: 268_435_454,
             name: 268_435_455,
             stamp: 0,
             value: Mode::Held { last_tick: 7 },
         };
-        assert_eq!(rt; answer(&mut log, &second), 0);
-        assert_eq!(rt; log.get(1).ok(), Some(second));
+        assert_eq!(rt; answer(&mut log, &second), Ok(()));
+        assert_eq!(rt; log.get(1), Ok(second));
     }
     assert_eq!(rt;
         words,

@@ -4,6 +4,7 @@ use logs::entry::Entry;
 use logs::log::Log;
 use modes::Mode;
 use outcomes::logged::Logged;
+use outcomes::recorded::Recorded;
 use plans::Plan;
 use reader::Reader;
 use std::test::Fail;
@@ -30,41 +31,35 @@ const CARD: [u32; 17] = [
     0x4000_0028,
 ];
 
-// How many entries are read, and then the number, index and part of the fault, or none at the end.
-fn read_all(words: &[u32]) -> (usize, Option<(u32, usize, Option<usize>)>) {
+// What reading a stretch to its end, or up to a fault, gives: how many entries, and then the number, index and part of the fault.
+type Outcome = (usize, Result<(), (u32, usize, Option<usize>)>);
+
+// The loop counts by a range: the proof that a count kept beside a `while let` does not overflow did not close.
+fn read_all(words: &[u32]) -> Outcome {
     let mut reader = Reader::new(words);
-    let mut entries: usize = 0;
-    for _ in 0..=words.len() {
+    for entries in 0..=words.len() {
         match reader.next() {
-            Ok(Some(_)) => entries = entries.saturating_add(1),
-            Ok(None) => return (entries, None),
-            Err(fault) => return (entries, Some((fault.number(), fault.index(), fault.part()))),
+            Ok(Some(_)) => {}
+            Ok(None) => return (entries, Ok(())),
+            Err(fault) => return (entries, Err((fault.into(), fault.index(), fault.part()))),
         }
     }
-    (entries, None)
+    (usize::MAX, Ok(()))
 }
 
 #[test]
 fn whole_and_cut_stretches(rt: HostRuntime) {
-    assert_eq!(rt; read_all(&[]), (0, None));
+    let ends = [6, 11, 17];
     for length in 0..=CARD.len() {
         assert!(rt; length <= CARD.len());
-        let entries = if length < 6 {
-            0
-        } else if length < 11 {
-            1
-        } else if length < 17 {
-            2
+        let entries = ends.iter().filter(|end| **end <= length).count();
+        let whole = length == 0 || ends.contains(&length);
+        let end = if whole {
+            Ok(())
         } else {
-            3
+            Err((42, length, None))
         };
-        let whole = length == 0 || length == 6 || length == 11 || length == 17;
-        let expected = if whole {
-            None
-        } else {
-            Some((42, length, None))
-        };
-        assert_eq!(rt; read_all(&CARD[0..length]), (entries, expected));
+        assert_eq!(rt; read_all(&CARD[..length]), (entries, end));
     }
 }
 
@@ -100,7 +95,7 @@ fn damaged_words(rt: HostRuntime) {
         let mut words = CARD;
         assert!(rt; at < 17);
         words[at] = word;
-        assert_eq!(rt; read_all(&words), (entries, Some((number, index, part))));
+        assert_eq!(rt; read_all(&words), (entries, Err((number, index, part))));
     }
 }
 
@@ -110,11 +105,11 @@ fn the_first_fault_comes_first(rt: HostRuntime) {
     let mut words = CARD;
     words[3] = 0x4000_001d;
     words[5] = 0x5000_0032;
-    assert_eq!(rt; read_all(&words), (0, Some((41, 5, None))));
-    assert_eq!(rt; read_all(&words[0..5]), (0, Some((42, 5, None))));
+    assert_eq!(rt; read_all(&words), (0, Err((41, 5, None))));
+    assert_eq!(rt; read_all(&words[0..5]), (0, Err((42, 5, None))));
     words[1] = 0x2000_0000;
-    assert_eq!(rt; read_all(&words), (0, Some((43, 1, None))));
-    assert_eq!(rt; read_all(&words[0..1]), (0, Some((42, 1, None))));
+    assert_eq!(rt; read_all(&words), (0, Err((43, 1, None))));
+    assert_eq!(rt; read_all(&words[0..1]), (0, Err((42, 1, None))));
 }
 
 #[test]
@@ -127,7 +122,7 @@ fn after_a_fault_it_stays(rt: HostRuntime) -> Result<(), Fail> {
     for _ in 0..3 {
         let fault = reader.next().err().ok_or("a fault")?;
         assert_eq!(rt;
-            (fault.number(), fault.index(), reader.position()),
+            (u32::from(fault), fault.index(), reader.position()),
             (43, 7, 6)
         );
     }
@@ -135,55 +130,54 @@ fn after_a_fault_it_stays(rt: HostRuntime) -> Result<(), Fail> {
 }
 
 #[test]
-fn entries_and_their_words(rt: HostRuntime) -> Result<(), Fail> {
+fn entries_and_their_words(rt: HostRuntime) {
     let mut reader = Reader::new(&CARD);
-    let first = reader.next().ok().ok_or("an entry")?.ok_or("an entry")?;
-    let second = reader.next().ok().ok_or("an entry")?.ok_or("an entry")?;
-    match first {
-        Logged::Plan { entry, words } => {
-            assert_eq!(rt; (entry.tick, entry.name, entry.stamp), (3, 5, 1));
-            assert_eq!(rt;
-                entry.value,
-                Plan {
-                    cycle: 100,
-                    offset: 20,
-                    green: 50,
-                }
-            );
-            assert_eq!(rt; words.len(), 3);
-        }
-        Logged::Mode { entry: _, words: _ } => return Err(Fail::new("a plan entry")),
-    }
-    match second {
-        Logged::Mode { entry, words } => {
-            assert_eq!(rt; (entry.tick, entry.name, entry.stamp), (4, 6, 2));
-            assert_eq!(rt; entry.value, Mode::Actuated { longest_green: 120 });
-            assert_eq!(rt; words.len(), 2);
-            Ok(())
-        }
-        Logged::Plan { entry: _, words: _ } => Err(Fail::new("a mode entry")),
-    }
+    let plan = Entry {
+        tick: 3,
+        name: 5,
+        stamp: 1,
+        value: Plan {
+            cycle: 100,
+            offset: 20,
+            green: 50,
+        },
+    };
+    let mode = Entry {
+        tick: 4,
+        name: 6,
+        stamp: 2,
+        value: Mode::Actuated { longest_green: 120 },
+    };
+    assert_eq!(rt;
+        reader.next(),
+        Ok(Some(Logged::Plan {
+            entry: plan,
+            words: &CARD[3..6],
+        }))
+    );
+    assert_eq!(rt;
+        reader.next(),
+        Ok(Some(Logged::Mode {
+            entry: mode,
+            words: &CARD[9..11],
+        }))
+    );
 }
 
-// The tick of an entry of a plan.
-fn plan_tick(logged: &Logged) -> Option<u32> {
-    match *logged {
-        Logged::Plan { entry, words: _ } => Some(entry.tick),
-        Logged::Mode { entry: _, words: _ } => None,
+// Whether reading a log's words gives these entries with their value words, and then the end.
+fn reads_back<V: Recorded>(log: &WordLog<V>, entries: &[Entry<V>]) -> bool {
+    let mut reader = Reader::of_log(log);
+    let words = log.filled_words().chunks_exact(3 + V::WIDTH);
+    for (entry, code) in entries.iter().zip(words) {
+        if reader.next() != Ok(Some(V::logged(entry, &code[3..]))) {
+            return false;
+        }
     }
-}
-
-// The ticks of the first two entries of a log, and whether the end comes after them.
-fn two_ticks(log: &WordLog<Plan>) -> Result<(Option<u32>, Option<u32>, bool), Fail> {
-    let mut reader = Reader::of_plans(log);
-    let first = reader.next().ok().ok_or("an entry")?.ok_or("an entry")?;
-    let second = reader.next().ok().ok_or("an entry")?.ok_or("an entry")?;
-    let last = reader.next().ok().ok_or("the end")?;
-    Ok((plan_tick(&first), plan_tick(&second), last.is_none()))
+    log.count() == entries.len() && reader.next() == Ok(None)
 }
 
 #[test]
-fn a_log_is_read_back(rt: HostRuntime) -> Result<(), Fail> {
+fn a_log_is_read_back(rt: HostRuntime) {
     let mut words = [0xffff_ffffu32; 13];
     let mut log = WordLog::<Plan>::open(&mut words);
     let value = Plan {
@@ -191,24 +185,46 @@ fn a_log_is_read_back(rt: HostRuntime) -> Result<(), Fail> {
         offset: 239,
         green: 235,
     };
-    assert!(rt;
-        log.add(&Entry {
+    let entries = [
+        Entry {
             tick: 268_435_454,
             name: 268_435_455,
             stamp: 268_435_455,
             value,
-        },)
-        .is_ok()
-    );
-    assert!(rt;
-        log.add(&Entry {
+        },
+        Entry {
             tick: 0,
             name: 1,
             stamp: 0,
             value,
-        },)
-        .is_ok()
-    );
-    assert_eq!(rt; two_ticks(&log)?, (Some(268_435_454), Some(0), true));
-    Ok(())
+        },
+    ];
+    for entry in &entries {
+        assert_eq!(rt; log.add(entry), Ok(()));
+    }
+    assert!(rt; reads_back(&log, &entries));
+}
+
+#[test]
+fn a_log_of_modes_is_read_back(rt: HostRuntime) {
+    let mut words = [0xffff_ffffu32; 13];
+    let mut log = WordLog::<Mode>::open(&mut words);
+    let entries = [
+        Entry {
+            tick: 0,
+            name: 1,
+            stamp: 268_435_455,
+            value: Mode::Actuated { longest_green: 120 },
+        },
+        Entry {
+            tick: 268_435_454,
+            name: 268_435_455,
+            stamp: 0,
+            value: Mode::Held { last_tick: 7 },
+        },
+    ];
+    for entry in &entries {
+        assert_eq!(rt; log.add(entry), Ok(()));
+    }
+    assert!(rt; reads_back(&log, &entries));
 }

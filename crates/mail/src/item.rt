@@ -1,43 +1,35 @@
-// The tests of the item that lies in a place of the mail. An empty place passes none.
-ghost use Rattle.std.specs.Prelude.{◌≡◌, ◌-◌};
+// A place of the mail: the tests of its item, which an empty place does not pass, and the places that are made from it.
+ghost use Rattle.std.specs.Prelude.{◌≡◌};
 ghost use Rattle.protocol.specs.Heads.{holds_of};
 ghost use Rattle.protocol.specs.Items.{is_due, is_reply_to, goes_with};
 ghost use Rattle.tables.specs.MailPlaces.{item_of, is_empty, addressed};
 ghost use Rattle.tables.specs.Passes.{without_item};
+ghost use Rattle.mail.specs.Sending.{place_from};
 
 use protocol::kind::MailKind;
+use records::clock::Clock;
+use records::copied::Copied;
 use tables::mail::MailPlace;
 
 // Whether the place is empty.
 pub fn is_empty<V: Copy>(p: MailPlace<V>) -> bool
     ensures { result ≡ is_empty p }
 {
-    match p.kind {
-        None => true,
-        Some(_) => false,
-    }
+    p.kind.is_none()
 }
 
-// Whether the item has to be brought before the clock moves on from this time.
-pub fn is_due<V: Copy>(p: MailPlace<V>, delay: u32, time: u32) -> bool
-    ensures { result ≡ holds_of (is_due delay time) (item_of p) }
+// Whether the item has to be brought before the clock moves on.
+pub fn is_due<V: Copy>(p: MailPlace<V>, clock: Clock) -> bool
+    ensures { result ≡ holds_of (is_due clock.delay clock.time) (item_of p) }
 {
-    match p.kind {
-        None => false,
-        Some(_) => p.sent as u64 + delay as u64 == time as u64 + 1,
-    }
+    p.kind.is_some() && clock.is_last_for(p.sent)
 }
 
 // Whether the item is a REPLY to this name.
 pub fn is_reply_to<V: Copy>(p: MailPlace<V>, name: u32) -> bool
     ensures { result ≡ holds_of (is_reply_to name) (item_of p) }
 {
-    match p.kind {
-        None => false,
-        Some(MailKind::Write) => false,
-        Some(MailKind::Inquiry) => false,
-        Some(MailKind::Reply) => p.receiver == name,
-    }
+    p.kind == Some(MailKind::Reply) && p.receiver == name
 }
 
 // Whether the item goes when the head with this name goes: mail to it, or its INQUIRY.
@@ -46,9 +38,8 @@ pub fn goes_with<V: Copy>(p: MailPlace<V>, name: u32) -> bool
 {
     match p.kind {
         None => false,
-        Some(MailKind::Write) => p.receiver == name,
         Some(MailKind::Inquiry) => p.receiver == name || p.sender == name,
-        Some(MailKind::Reply) => p.receiver == name,
+        Some(MailKind::Write | MailKind::Reply) => p.receiver == name,
     }
 }
 
@@ -64,4 +55,17 @@ pub fn to<V: Copy>(item: MailPlace<V>, receiver: u32) -> MailPlace<V>
     ensures { result ≡ addressed item receiver }
 {
     MailPlace { receiver, ..item }
+}
+
+// The item of this kind that carries the sender's copy; whom it goes to is filled in for each receiver.
+pub fn item_from<V: Copy>(kind: MailKind, sender: u32, copy: Copied<V>, sent: u32) -> MailPlace<V>
+    ensures { result ≡ place_from kind sender copy sent }
+{
+    MailPlace {
+        kind: Some(kind),
+        sender,
+        receiver: sender,
+        sent,
+        copy,
+    }
 }

@@ -1,4 +1,4 @@
-// The mail of a site: tests of one item, and the search for the item to be brought.
+// The mail of a site: one place of it, and the search for the item to be brought.
 #![tactic(auto)]
 
 pub mod delivery;

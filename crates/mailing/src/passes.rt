@@ -1,27 +1,20 @@
 // What happens to the mail in one pass over its places. New items lie in any places that are empty.
-ghost use Rattle.std.specs.Prelude.{◌≡◌, ◌+◌, ◌-◌, ◌<◌, ◌≤◌, min, true, false, [], ◌++◌, map, length, take, nat_le, slice_index, slice_set};
-ghost use Rattle.protocol.specs.Items.{is_reply_to, goes_with, dropping};
-ghost use Rattle.tables.specs.MailPlaces.{items_of, addressed};
-ghost use Rattle.tables.specs.Passes.{cleared, takes as takes_item, filled as filled_place, sent as sent_items, names_but};
-ghost use Rattle.mailing.specs.EmptyPlaces.{empties_from};
-ghost use Rattle.std.specs.List.{slice_get};
+ghost use Rattle.std.specs.Prelude.{◌≡◌, ℕ, ◌+◌, ◌-◌, ◌<◌, ◌≤◌, Bool, true, false, [], ◌++◌, map, length, take, nat_le, is_ok, is_err, Some, None, Ok, Err};
+ghost use Rattle.protocol.specs.declared.refusal.Refusal.TheVariants.{NoRoom};
+ghost use Rattle.protocol.specs.Heads.{holds_of};
+ghost use Rattle.protocol.specs.Items.{Item, is_reply_to, goes_with, dropping};
+ghost use Rattle.records.specs.NameLists.{names_of};
+ghost use Rattle.records.specs.declared.names.Names.{Names};
+ghost use Rattle.tables.specs.MailPlaces.{item_of, items_of, is_empty, addressed};
+ghost use Rattle.tables.specs.FirstPlaces.{place_of};
+ghost use Rattle.tables.specs.Passes.{sent as sent_items, names_but};
 ghost use Rattle.std.specs.List.Sorted.{IsPermutation};
 
 use mail::item::{emptied, goes_with, is_empty, is_reply_to, to};
+use protocol::refusal::Refusal;
+use records::names::Names;
 use tables::head::Head;
 use tables::mail::MailPlace;
-
-// To how many heads an item can be sent at once.
-const RECEIVERS: usize = 64;
-
-// Puts an item into this place.
-pub fn put_at<V: Copy>(mail: &mut [MailPlace<V>], i: usize, item: MailPlace<V>)
-    ensures { mail.new ≡ slice_set mail.old i item }
-{
-    if i < mail.len() {
-        mail[i] = item;
-    }
-}
 
 // Takes every item out of the mail.
 pub fn take_out_all<V: Copy>(mail: &mut [MailPlace<V>])
@@ -37,140 +30,94 @@ pub fn drop_mail_with<V: Copy>(mail: &mut [MailPlace<V>], name: u32)
     ensures { items_of mail.new ≡ dropping (goes_with name) (items_of mail.old) }
 {
     for p in mail.iter_mut() {
-        *p = without_mail_with(*p, name);
+        if goes_with(*p, name) {
+            *p = emptied(*p);
+        }
     }
 }
 
-// The place without an item that goes with this name.
-fn without_mail_with<V: Copy>(p: MailPlace<V>, name: u32) -> MailPlace<V>
-    ensures { result ≡ cleared (goes_with name) p }
-{
-    if goes_with(p, name) { emptied(p) } else { p }
-}
-
 // Sends the item to every head but the one in this place, if each finds an empty place.
-// Otherwise nothing is altered, and the answer is false.
+// Otherwise nothing is altered.
 pub fn broadcast<V: Copy>(
     mail: &mut [MailPlace<V>],
     item: MailPlace<V>,
     heads: &[Head<V>],
     but: usize,
-) -> bool
-    ensures room { length heads.now ≤ 64 → result ≡ nat_le (length (items_of mail.old) + length (names_but but heads.now)) (length mail.old) }
-    ensures sent { result ≡ true → IsPermutation (items_of mail.new) (items_of mail.old ++ items_of (map (addressed item) (names_but but heads.now))) }
-    ensures refused { result ≡ false → mail.new ≡ mail.old }
+) -> Result<(), Refusal>
+    ensures room { length heads.now ≤ 64 → is_ok result ≡ nat_le (length (items_of mail.old) + length (names_but but heads.now)) (length mail.old) }
+    ensures sent { result ≡ Ok tt → IsPermutation (items_of mail.new) (items_of mail.old ++ items_of (map (addressed item) (names_but but heads.now))) }
+    ensures refused { is_err result ≡ true → (result ≡ Err NoRoom) × (mail.new ≡ mail.old) }
 {
-    let wanted = count_others(heads, but);
-    if wanted > RECEIVERS {
-        return false;
-    }
-    let (places, found) = empty_places(mail, wanted);
-    if found < wanted {
-        return false;
-    }
-    for k in 0..wanted {
-        let name = other_name(heads, but, k);
-        put_at(mail, places[k], to(item, name));
-    }
-    true
+    let receivers = names_of_others(heads, but).ok_or(Refusal::NoRoom)?;
+    let names = receivers.as_slice();
+    let end = room_for(mail, names.len()).ok_or(Refusal::NoRoom)?;
+    refill(&mut mail[..end], |_| false, item, names);
+    Ok(())
 }
 
-// The first empty places, as many as are wanted, and how many they are.
-fn empty_places<V: Copy>(mail: &[MailPlace<V>], wanted: usize) -> ([usize; 64], usize)
-    requires { wanted ≤ 64 }
-    ensures places { take result.1 result.0 ≡ take wanted (empties_from 0 mail.now) }
-    ensures count { result.1 ≡ min wanted (length (empties_from 0 mail.now)) }
+// The names of all heads but the one in this place, where they are no more than 64.
+fn names_of_others<V: Copy>(heads: &[Head<V>], but: usize) -> Option<Names>
+    ensures names { (n : Names) → result ≡ Some n → names_of n ≡ names_but but heads.now }
+    ensures many { result ≡ None → 64 < length (names_but but heads.now) }
 {
-    let mut places = [0; 64];
-    let mut count = 0;
-    for (i, p) in mail.iter().enumerate() {
-        if count >= wanted {
-            return (places, count);
-        }
-        if is_empty(*p) {
-            places[count] = i;
-            count += 1;
+    let mut names = Names::new();
+    for (i, h) in heads.iter().enumerate() {
+        if i != but {
+            if names.is_full() {
+                return None;
+            }
+            names.push(h.name);
         }
     }
-    (places, count)
+    Some(names)
 }
 
-// How many heads there are without the one in this place.
-fn count_others<V: Copy>(heads: &[Head<V>], but: usize) -> usize
-    ensures { result ≡ length (names_but but heads.now) }
+// How many places from the first on have so many empty ones, where there are so many.
+fn room_for<V: Copy>(mail: &[MailPlace<V>], wanted: usize) -> Option<usize>
+    ensures room { (n : ℕ) → result ≡ Some n → (n ≤ length mail.now) × (length (items_of (take n mail.now)) + wanted ≡ n) }
+    ensures full { result ≡ None → length mail.now < length (items_of mail.now) + wanted }
 {
-    let all = heads.len();
-    if but < all { all - 1 } else { all }
-}
-
-// Name k of the heads without the one in this place, and 0 past the last.
-fn other_name<V: Copy>(heads: &[Head<V>], but: usize, k: usize) -> u32
-    requires { k < 64 }
-    ensures { result ≡ slice_index (names_but but heads.now) k }
-{
-    if k < but {
-        head_name(heads, k)
-    } else {
-        head_name(heads, k + 1)
+    let mut end = 0;
+    for _ in 0..wanted {
+        end += first_empty(&mail[end..])? + 1;
     }
+    Some(end)
 }
 
-// The name of the head in this place, and 0 past the last.
-fn head_name<V: Copy>(heads: &[Head<V>], i: usize) -> u32
-    ensures { result ≡ slice_index (map (λ h. h.name) heads.now) i }
+// The first place that is empty.
+fn first_empty<V: Copy>(mail: &[MailPlace<V>]) -> Option<usize>
+    ensures place { result ≡ place_of is_empty mail.now }
+    ensures within { (i : ℕ) → result ≡ Some i → i < length mail.now }
 {
-    if i < heads.len() { heads[i].name } else { 0 }
+    mail.iter().position(|p| is_empty(*p))
 }
 
 // Drops the REPLY items to this name, and sends the item to each of the names, as far as there are empty places.
 pub fn answer<V: Copy>(mail: &mut [MailPlace<V>], name: u32, item: MailPlace<V>, names: &[u32])
     ensures { IsPermutation (items_of mail.new) (dropping (is_reply_to name) (items_of mail.old) ++ sent_items (length mail.old - length (dropping (is_reply_to name) (items_of mail.old))) item names.now) }
 {
-    let mut sent = 0;
+    refill(mail, |p| is_reply_to(p, name), item, names);
+}
+
+// Drops the items that go, and sends the item to each of the names, as far as there are empty places.
+fn refill<V: Copy, F: Fn(MailPlace<V>) -> bool>(
+    mail: &mut [MailPlace<V>],
+    goes: F,
+    item: MailPlace<V>,
+    names: &[u32],
+)
+    requires { F.IsAlwaysCallable goes }
+    ensures { (t : Item V → Bool) → ((p : MailPlace V) (b : Bool) → F.post goes p b → b ≡ holds_of t (item_of p)) → IsPermutation (items_of mail.new) (dropping t (items_of mail.old) ++ sent_items (length mail.old - length (dropping t (items_of mail.old))) item names.now) }
+{
+    let mut left = names.iter();
     for place in mail.iter_mut() {
-        let p = without_reply_to(*place, name);
-        let next = name_at(names, sent);
-        *place = filled(item, p, next);
-        if takes(p, next) {
-            sent += 1;
+        if goes(*place) {
+            *place = emptied(*place);
         }
-    }
-}
-
-// The place without a REPLY to this name.
-fn without_reply_to<V: Copy>(p: MailPlace<V>, name: u32) -> MailPlace<V>
-    ensures { result ≡ cleared (is_reply_to name) p }
-{
-    if is_reply_to(p, name) { emptied(p) } else { p }
-}
-
-// Whether the place takes an item to the next receiver.
-fn takes<V: Copy>(p: MailPlace<V>, next: Option<u32>) -> bool
-    ensures { result ≡ takes_item p next }
-{
-    match next {
-        None => false,
-        Some(_) => is_empty(p),
-    }
-}
-
-// The place with an item to the next receiver, if it takes one.
-fn filled<V: Copy>(item: MailPlace<V>, p: MailPlace<V>, next: Option<u32>) -> MailPlace<V>
-    ensures { result ≡ filled_place item p next }
-{
-    match next {
-        None => p,
-        Some(b) => if is_empty(p) { to(item, b) } else { p },
-    }
-}
-
-// Name k of the list.
-fn name_at(names: &[u32], k: usize) -> Option<u32>
-    ensures { result ≡ slice_get names.now k }
-{
-    if k < names.len() {
-        Some(names[k])
-    } else {
-        None
+        if is_empty(*place)
+            && let Some(name) = left.next()
+        {
+            *place = to(item, *name);
+        }
     }
 }

@@ -1,2 +1,1 @@
-pub mod ModeParts
 pub mod ModeLaws

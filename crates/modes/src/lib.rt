@@ -1,11 +1,12 @@
 // The mode of a junction: how it is run.
 #![tactic(auto)]
 
-ghost use Rattle.std.specs.Prelude.{◌≡◌};
-ghost use Rattle.modes.specs.Modes.{mode_number, mode_argument, mode_lawful, mode_parts, mode_built, mode_wrong, case_ok, argument_ok};
+ghost use Rattle.std.specs.Prelude.{◌≡◌, Some};
+ghost use Rattle.modes.specs.Modes.{mode_number, mode_argument, mode_lawful, mode_parts, mode_built, mode_fits, mode_begun, mode_text, case_ok, argument_ok};
 ghost use Rattle.std.proofs.Common.{rules};
 
-use kinds::value::{Loggable, Value, WrongPart, judged, number_at};
+use kinds::value::{Loggable, Value, number_at};
+use std::fmt;
 
 // Run by a fixed plan, actuated by detectors up to a longest green, or held until a last tick.
 #[derive(Clone, Copy, PartialEq, Eq, Debug)]
@@ -16,7 +17,7 @@ pub enum Mode {
 }
 
 impl Mode {
-    // The number of the case: 0, 1 or 2.
+    // The number of the case: 0, 1 or 2. It is a method and no conversion, for it is only a part of the value.
     pub fn number(&self) -> u32
         ensures { result ≡ mode_number self.now }
     {
@@ -50,15 +51,19 @@ impl Value for Mode {
 impl Loggable for Mode {
     const WIDTH: usize = 2;
 
+    ghost WIDTH = { 2 };
+
     const MARK: u32 = 5;
 
-    ghost width = { 2 };
-
-    ghost mark = { 5 };
+    ghost MARK = { 5 };
 
     ghost parts = { mode_parts };
 
     ghost built = { mode_built };
+
+    ghost fits = { mode_fits };
+
+    ghost begun = { mode_begun };
 
     ghost wide = { Prim.search rules };
 
@@ -72,13 +77,11 @@ impl Loggable for Mode {
 
     ghost apart = { Prim.search rules };
 
-    fn word_width() -> usize {
-        Self::WIDTH
-    }
+    ghost needed = { Prim.search rules };
 
-    fn word_mark() -> u32 {
-        Self::MARK
-    }
+    ghost enough = { Prim.search rules };
+
+    ghost begins = { Prim.search rules };
 
     fn part(&self, i: usize) -> u32 {
         match i {
@@ -101,25 +104,25 @@ impl Loggable for Mode {
         }
     }
 
-    fn from_parts(numbers: &[u32]) -> Result<Mode, WrongPart> {
-        judged(first_wrong(numbers), Self::rebuild(numbers))
+    fn fits(numbers: &[u32], i: usize) -> bool {
+        let case = number_at(numbers, 0);
+        match i {
+            0 => case_fits(case),
+            _ => argument_fits(case, number_at(numbers, 1)),
+        }
     }
 }
 
-// The first of the numbers that is missing, out of its range or too many.
-fn first_wrong(numbers: &[u32]) -> Option<usize>
-    ensures { result ≡ mode_wrong numbers.now }
-{
-    let given = numbers.len();
-    let case = number_at(numbers, 0);
-    if given < 1 || !case_fits(case) {
-        Some(0)
-    } else if given < 2 || !argument_fits(case, number_at(numbers, 1)) {
-        Some(1)
-    } else if given > 2 {
-        Some(2)
-    } else {
-        None
+// The case, and its argument where it has one.
+impl fmt::Display for Mode {
+    ghost output = { λ m. Some (mode_text m) };
+
+    fn fmt<W: fmt::Write>(&self, f: &mut fmt::Formatter<W>) -> fmt::Result {
+        match *self {
+            Mode::Fixed => write!(f, "fixed"),
+            Mode::Actuated { longest_green } => write!(f, "actuated {longest_green}"),
+            Mode::Held { last_tick } => write!(f, "held {last_tick}"),
+        }
     }
 }
 
@@ -134,7 +137,7 @@ fn argument_fits(number: u32, argument: u32) -> bool
 {
     match number {
         0 => argument == 0,
-        1 => 10 <= argument && argument <= 120,
+        1 => (10..=120).contains(&argument),
         _ => argument <= 268_435_454,
     }
 }

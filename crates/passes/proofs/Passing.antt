@@ -1,5 +1,5 @@
--- What a look tells of a pass.
-use Rattle.std.proofs.Common.{◌≡◌, ℕ, Bool, true, false, cond, not, ℤ, is_some, Some, None, Ok, Err, Option, sym, ap, ◌∙◌, arith}
+-- What a look tells of a pass, and what a refusal tells without it.
+use Rattle.std.proofs.Common.{◌≡◌, ℕ, Bool, true, false, cond, not, ℤ, is_some, Some, None, Ok, Err, Option, Result, is_err, sym, refl, ap, ◌∙◌, arith}
 use Rattle.protocol.specs.declared.state.HeadState.{HeadState}
 use Rattle.protocol.specs.declared.refusal.Refusal.{Refusal}
 use Rattle.protocol.specs.declared.refusal.Refusal.TheVariants.{ForeignTables, NoSuchHead, NotActive}
@@ -12,7 +12,10 @@ use Rattle.protocol.specs.Read.{read_checks}
 use Rattle.protocol.specs.Sites.{State, foreign, refused_by}
 use Rattle.protocol.specs.Steps.{Step, refused, accepted, look_answer}
 use Rattle.acts.proofs.Checks.{refused_first, passed_first}
+use Rattle.std.specs.Result.{MatchResult, IsErrAnd}
 use Rattle.site.specs.States.{seen_answer}
+use Rattle.passes.specs.declared.Refused.{Refused as Returned}
+use Rattle.passes.specs.Passes.{bare}
 
 -- nobody is refused where the checks of a look pass
 unrefused : {V : Type 0} (b : Bool) (o : Option (Head V)) (why : Refusal) → cond b (Some ForeignTables) (cond (not (is_some o)) (Some NoSuchHead) None) ≡ None → Refused why ≡ look_answer o → ⊥
@@ -44,3 +47,17 @@ module _ {V : Type 0} {lawful : V → Bool} {s t : State V} {x : ℕ} where
       let (e, a) = look_passed step in
       passed_first (look_checks s x) (cond (not (active_named x s.heads)) (Some NotActive) None) e
       ∙ ap (λ d. cond (not d) (Some NotActive) None) (a ∙ sym r)
+
+-- a refusal with its pass tells what it told without
+module _ {X P : Type 0} {Q : Refusal → Returned P → Type 0} (same : (why : Refusal) (d : Returned P) → Q why d → d.why ≡ why) where
+  bare_refusal : (why : Refusal) (q : Result X (Returned P)) → IsErrAnd q (Q why) → Err why ≡ bare q
+  bare_refusal why (Ok x) h = absurd h
+  bare_refusal why (Err d) h = ap Err (sym (same why d h))
+
+  pub bare_told : (r : Result X Refusal) (q : Result X (Returned P)) → MatchResult r (λ x. q ≡ Ok x) (λ why. IsErrAnd q (Q why)) → r ≡ bare q
+  bare_told (Ok x) q e = sym (ap bare e)
+  bare_told (Err why) q h = bare_refusal why q h
+
+pub bare_is_err : {X P : Type 0} (q : Result X (Returned P)) → is_err (bare q) ≡ is_err q
+bare_is_err (Ok x) = refl
+bare_is_err (Err d) = refl

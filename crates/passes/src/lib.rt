@@ -1,8 +1,11 @@
 // Calls by pass. A head has one pass at a time, which says what it may ask; a pass is used up by what changes it.
 #![tactic(auto)]
 
+use protocol::refusal::Refusal;
+
 pub mod joining;
 pub mod membership;
+pub mod swapping;
 pub mod writing;
 
 // The pass of a head that may still have to learn the value.
@@ -21,4 +24,11 @@ pub struct Member {
 #[derive(Drop)]
 pub struct Writer {
     name: u32,
+}
+
+// Why a call by pass is refused, and the pass, which is handed back.
+#[derive(Drop)]
+pub struct Refused<P> {
+    pub pass: P,
+    pub why: Refusal,
 }

@@ -4,18 +4,21 @@ ghost use Rattle.protocol.specs.Sites.{refused_by};
 ghost use Rattle.site.specs.States.{site_of};
 ghost use Rattle.passes.specs.Passes.{finish_checks, finished_by};
 
-use crate::{Member, Writer};
+use crate::{Member, Refused, Writer};
 use protocol::refusal::Refusal;
 use site::site::Site;
 
 impl Writer {
     // The head is a member again when no write is under way.
-    pub fn finish(self, site: &Site) -> Result<Member, (Writer, Refusal)>
+    pub fn finish(self, site: &Site) -> Result<Member, Refused<Writer>>
         ensures { result ≡ finished_by self.name (refused_by (finish_checks (site_of site.now)) None) }
     {
-        match site.under_way {
-            None => Ok(Member { name: self.name }),
-            Some(_) => Err((self, Refusal::WriteUnderWay)),
+        if site.under_way.is_some() {
+            return Err(Refused {
+                pass: self,
+                why: Refusal::WriteUnderWay,
+            });
         }
+        Ok(Member { name: self.name })
     }
 }

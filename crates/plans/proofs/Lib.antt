@@ -1,2 +1,1 @@
-pub mod PlanParts
 pub mod PlanLaws

@@ -1,11 +1,12 @@
 // The plan of a junction, in seconds.
 #![tactic(auto)]
 
-ghost use Rattle.std.specs.Prelude.{◌≡◌};
-ghost use Rattle.plans.specs.Plans.{plan_lawful, plan_parts, plan_built, plan_wrong, cycle_ok, offset_ok, green_ok};
+ghost use Rattle.std.specs.Prelude.{◌≡◌, Some};
+ghost use Rattle.plans.specs.Plans.{plan_lawful, plan_parts, plan_built, plan_fits, plan_begun, plan_text, cycle_ok, offset_ok, green_ok};
 ghost use Rattle.std.proofs.Common.{rules};
 
-use kinds::value::{Loggable, Value, WrongPart, judged, number_at};
+use kinds::value::{Loggable, Value, number_at};
+use std::fmt;
 
 // A plan may be written down that is not lawful.
 #[derive(Clone, Copy, PartialEq, Eq, Debug)]
@@ -28,15 +29,19 @@ impl Value for Plan {
 impl Loggable for Plan {
     const WIDTH: usize = 3;
 
+    ghost WIDTH = { 3 };
+
     const MARK: u32 = 4;
 
-    ghost width = { 3 };
-
-    ghost mark = { 4 };
+    ghost MARK = { 4 };
 
     ghost parts = { plan_parts };
 
     ghost built = { plan_built };
+
+    ghost fits = { plan_fits };
+
+    ghost begun = { plan_begun };
 
     ghost wide = { Prim.search rules };
 
@@ -50,13 +55,11 @@ impl Loggable for Plan {
 
     ghost apart = { Prim.search rules };
 
-    fn word_width() -> usize {
-        Self::WIDTH
-    }
+    ghost needed = { Prim.search rules };
 
-    fn word_mark() -> u32 {
-        Self::MARK
-    }
+    ghost enough = { Prim.search rules };
+
+    ghost begins = { Prim.search rules };
 
     fn part(&self, i: usize) -> u32 {
         match i {
@@ -75,34 +78,29 @@ impl Loggable for Plan {
         }
     }
 
-    fn from_parts(numbers: &[u32]) -> Result<Plan, WrongPart> {
-        judged(first_wrong(numbers), Self::rebuild(numbers))
+    fn fits(numbers: &[u32], i: usize) -> bool {
+        let plan = Self::rebuild(numbers);
+        match i {
+            0 => cycle_fits(plan.cycle),
+            1 => offset_fits(plan.cycle, plan.offset),
+            _ => green_fits(plan.cycle, plan.green),
+        }
     }
 }
 
-// The first of the numbers that is missing, out of its range or too many.
-fn first_wrong(numbers: &[u32]) -> Option<usize>
-    ensures { result ≡ plan_wrong numbers.now }
-{
-    let given = numbers.len();
-    let plan = <Plan as Loggable>::rebuild(numbers);
-    if given < 1 || !cycle_fits(plan.cycle) {
-        Some(0)
-    } else if given < 2 || !offset_fits(plan.cycle, plan.offset) {
-        Some(1)
-    } else if given < 3 || !green_fits(plan.cycle, plan.green) {
-        Some(2)
-    } else if given > 3 {
-        Some(3)
-    } else {
-        None
+// Cycle, offset and green.
+impl fmt::Display for Plan {
+    ghost output = { λ p. Some (plan_text p) };
+
+    fn fmt<W: fmt::Write>(&self, f: &mut fmt::Formatter<W>) -> fmt::Result {
+        write!(f, "{} {} {}", self.cycle, self.offset, self.green)
     }
 }
 
 fn cycle_fits(cycle: u32) -> bool
     ensures { result ≡ cycle_ok cycle }
 {
-    30 <= cycle && cycle <= 240
+    (30..=240).contains(&cycle)
 }
 
 fn offset_fits(cycle: u32, offset: u32) -> bool

@@ -1,4 +1,5 @@
 pub mod Numbers
+pub mod Texts
 pub mod Answers
 pub mod Places
 pub mod Heads

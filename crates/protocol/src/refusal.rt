@@ -1,8 +1,10 @@
 // Why a call is refused.
-ghost use Rattle.std.specs.Prelude.{◌≡◌};
+ghost use Rattle.std.specs.Prelude.{◌≡◌, Some, decimal};
 ghost use Rattle.protocol.specs.Numbers.{refusal_number};
+ghost use Rattle.protocol.specs.declared.refusal.Refusal.TheVariants.{Log};
 
 use logs::entry::LogRefusal;
+use std::fmt;
 
 #[derive(Clone, Copy, PartialEq, Eq, Debug)]
 pub enum Refusal {
@@ -44,12 +46,12 @@ pub enum Refusal {
     Log(LogRefusal),
 }
 
-impl Refusal {
-    // The number by which the refusal is told.
-    pub fn number(&self) -> u32
-        ensures { result ≡ refusal_number self.now }
-    {
-        match *self {
+// The number by which the refusal is told.
+impl From<Refusal> for u32 {
+    ghost from_gives = { λ why number. number ≡ refusal_number why };
+
+    fn from(why: Refusal) -> u32 {
+        match why {
             Refusal::HeadCount => 1,
             Refusal::DelayLimit => 2,
             Refusal::ChurnLimit => 3,
@@ -67,7 +69,24 @@ impl Refusal {
             Refusal::NoSuchItem => 21,
             Refusal::MailDue => 22,
             Refusal::LastTick => 23,
-            Refusal::Log(why) => why.number(),
+            Refusal::Log(why) => u32::from(why),
         }
+    }
+}
+
+impl From<LogRefusal> for Refusal {
+    ghost from_gives = { λ why r. r ≡ Log why };
+
+    fn from(why: LogRefusal) -> Refusal {
+        Refusal::Log(why)
+    }
+}
+
+// A refusal is told by its number.
+impl fmt::Display for Refusal {
+    ghost output = { λ why. Some (decimal (refusal_number why)) };
+
+    fn fmt<W: fmt::Write>(&self, f: &mut fmt::Formatter<W>) -> fmt::Result {
+        write!(f, "{}", u32::from(*self))
     }
 }

@@ -2,25 +2,24 @@
 #![tactic(auto)]
 
 ghost use Rattle.std.specs.Prelude.{◌≡◌, true, length, is_some, is_err, Ok};
-ghost use Rattle.logs.specs.Meanings.{Meaning};
 ghost use Rattle.protocol.specs.Answers.{refusal_told};
 ghost use Rattle.protocol.specs.Steps.{Step};
 ghost use Rattle.law.specs.Laws.{Begun, KeepsLaw};
 ghost use Rattle.acts.specs.Making.{setup_of};
 ghost use Rattle.site.specs.Makes.{Makes};
-ghost use Rattle.site.specs.States.{state_of, swapped_answer, read_answer_of, written_answer, brought_answer, ticked_answer, seen_answer};
+ghost use Rattle.site.specs.States.{state_of, answered};
 
 use kinds::value::Value;
 use logs::log::Log;
 use protocol::answer::Answer;
 use protocol::call::Call;
 use protocol::refusal::Refusal;
-use protocol::state::HeadState;
+use records::label::Label;
 use site::site::Site;
 use tables::head::Head;
 use tables::mail::MailPlace;
 
-// A site over these tables, with an empty mail; the log may hold entries already.
+// A site over these tables, with an empty mail; the log may hold entries already. Delay, swap limit and start are the numbers of a make as the rules name them; a record of them would be made for this one call.
 pub fn make<V: Value, L: Log<V>>(
     heads: &mut [Head<V>],
     mail: &mut [MailPlace<V>],
@@ -49,70 +48,56 @@ pub fn perform<V: Value, L: Log<V>>(
     ensures kept { is_some (refusal_told result) ≡ true → (site.new ≡ site.old) × (heads.new ≡ heads.old) × (mail.new ≡ mail.old) }
     ensures lender { L.Log.kept log.old log.new }
 {
+    // A match, since the borrow check does not cover an `unwrap_or_else` whose function alone names the type of a value.
+    match carry_out(site, heads, mail, log, call) {
+        Ok(answer) => answer,
+        Err(why) => Answer::Refused(why),
+    }
+}
+
+// Carries the call out and answers it, or tells why it is refused.
+fn carry_out<V: Value, L: Log<V>>(
+    site: &mut Site,
+    heads: &mut [Head<V>],
+    mail: &mut [MailPlace<V>],
+    log: &mut L,
+    call: &Call<V>,
+) -> Result<Answer<V>, Refusal>
+    ensures step { Step V.Value.lawful (state_of site.old heads.old mail.old (L.Log.meaning log.old)) call.now (answered result) (state_of site.new heads.new mail.new (L.Log.meaning log.new)) }
+    ensures kept { is_some (refusal_told (answered result)) ≡ true → (site.new ≡ site.old) × (heads.new ≡ heads.old) × (mail.new ≡ mail.old) }
+    ensures lender { L.Log.kept log.old log.new }
+{
     match *call {
-        Call::Swap { name } => swapped(site.swap(heads, mail, name)),
-        Call::Read { name } => value_read(site.read(heads, mail, log, name)),
-        Call::Write { name, value } => written(site.write(heads, mail, name, value)),
+        Call::Swap { name } => Ok(Answer::Swapped {
+            name: site.swap(heads, mail, name)?,
+        }),
+        Call::Read { name } => {
+            let (stamp, value) = site.read(heads, mail, log, name)?;
+            Ok(Answer::Value { stamp, value })
+        }
+        Call::Write { name, value } => Ok(Answer::Written {
+            stamp: site.write(heads, mail, name, value)?,
+        }),
         Call::Bring {
             kind,
             sender,
             receiver,
-        } => brought(site.bring(heads, mail, kind, sender, receiver)),
-        Call::Tick => ticked(site.tick(heads, mail)),
-        Call::Look { name } => seen(site.look(heads, mail, name)),
-    }
-}
-
-fn swapped<V: Value>(r: Result<u32, Refusal>) -> Answer<V>
-    ensures { result ≡ swapped_answer r }
-{
-    match r {
-        Ok(name) => Answer::Swapped { name },
-        Err(why) => Answer::Refused(why),
-    }
-}
-
-fn value_read<V: Value>(r: Result<(i64, V), Refusal>) -> Answer<V>
-    ensures { result ≡ read_answer_of r }
-{
-    match r {
-        Ok((stamp, value)) => Answer::Value { stamp, value },
-        Err(why) => Answer::Refused(why),
-    }
-}
-
-fn written<V: Value>(r: Result<i64, Refusal>) -> Answer<V>
-    ensures { result ≡ written_answer r }
-{
-    match r {
-        Ok(stamp) => Answer::Written { stamp },
-        Err(why) => Answer::Refused(why),
-    }
-}
-
-fn brought<V: Value>(r: Result<(), Refusal>) -> Answer<V>
-    ensures { result ≡ brought_answer r }
-{
-    match r {
-        Ok(_) => Answer::Brought,
-        Err(why) => Answer::Refused(why),
-    }
-}
-
-fn ticked<V: Value>(r: Result<(u32, u32), Refusal>) -> Answer<V>
-    ensures { result ≡ ticked_answer r }
-{
-    match r {
-        Ok((time, turned)) => Answer::Ticked { time, turned },
-        Err(why) => Answer::Refused(why),
-    }
-}
-
-fn seen<V: Value>(r: Result<(HeadState, i64), Refusal>) -> Answer<V>
-    ensures { result ≡ seen_answer r }
-{
-    match r {
-        Ok((state, stamp)) => Answer::Seen { state, stamp },
-        Err(why) => Answer::Refused(why),
+        } => {
+            let label = Label {
+                kind,
+                sender,
+                receiver,
+            };
+            site.bring(heads, mail, label)?;
+            Ok(Answer::Brought)
+        }
+        Call::Tick => {
+            let (time, turned) = site.tick(heads, mail)?;
+            Ok(Answer::Ticked { time, turned })
+        }
+        Call::Look { name } => {
+            let (state, stamp) = site.look(heads, mail, name)?;
+            Ok(Answer::Seen { state, stamp })
+        }
     }
 }

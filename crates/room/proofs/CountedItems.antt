@@ -1,20 +1,17 @@
 -- What is added to the mail and dropped from it, by the counts.
-use Rattle.std.proofs.Common.{◌≡◌, ℕ, ◌+◌, ◌-◌, ◌<◌, ◌≤◌, Bool, true, false, cond, not, eqb, List, [], ◌∷◌, ◌++◌, map, length, get_or, take, set, replicate, is_some, Some, None, filter, Option, sym, refl, ap, ◌∙◌, subst, inl, inr, add-zero, arith}
+use Rattle.std.proofs.Common.{◌≡◌, ℕ, ◌+◌, ◌-◌, ◌<◌, ◌≤◌, Bool, true, false, cond, not, eqb, List, [], ◌∷◌, ◌++◌, map, length, get_or, take, set, replicate, Some, None, filter, Option, sym, refl, ap, ◌∙◌, inl, inr, add-zero, arith}
 use Rattle.std.proofs.lemmas.List.Elements.{filter-append}
 use Rattle.std.proofs.lemmas.List.Filters.{length-filter_both}
-use Rattle.std.proofs.lemmas.List.{append-nil, length-append, length_push, get_or-set_same, get_or-set_other, get_or-replicate, take_more}
-use Rattle.std.proofs.lemmas.Bool.{cases_eq, false≢true, eq-eqb, ne_eqb, eqb-true}
+use Rattle.std.proofs.lemmas.List.{length-append, length_push, get_or-set_same, get_or-set_other, get_or-replicate, take_more}
+use Rattle.std.proofs.lemmas.Bool.{cases_eq, eq-eqb, ne_eqb, eqb-true}
 use Rattle.std.proofs.lemmas.Bool.Decides.{nat_tests}
-use Rattle.protocol.specs.declared.kind.MailKind.{MailKind}
-use Rattle.protocol.specs.declared.kind.MailKind.TheVariants.{Write, Inquiry, Reply}
-use Rattle.protocol.specs.Heads.{Copy, is_named, holds_of}
+use Rattle.protocol.specs.Heads.{Copy, is_named}
 use Rattle.protocol.specs.Items.{Item, write, inquiry, reply, is_reply_to, dropping}
 use Rattle.tables.specs.declared.head.Head.{Head}
 use Rattle.tables.specs.declared.mail.MailPlace.{MailPlace}
-use Rattle.tables.specs.HeadPlaces.{head_of, copy_of}
-use Rattle.tables.specs.MailPlaces.{item_of, item_by, items_of, with_item, is_empty}
+use Rattle.tables.specs.HeadPlaces.{head_of}
+use Rattle.tables.specs.MailPlaces.{item_of, items_of, with_item}
 use Rattle.tables.proofs.Found.{Found, here, later, found, found_within}
-use Rattle.room.specs.declared.counts.Counts.{Counts}
 use Rattle.room.specs.Counting.{replies_to, place_named, Counted}
 
 module _ {V : Type 0} where
@@ -60,30 +57,19 @@ module _ {V : Type 0} where
       go None = refl
       go (Some x) = refl
 
+  -- there are no more items than places
+  pub items_within : (ps : List (MailPlace V)) → length (items_of ps) ≤ length ps
+  items_within [] = omega arith
+  items_within (p ∷ ps) = go (item_of p) (items_within ps)
+    where
+      go : (o : Option (Item V)) → length (items_of ps) ≤ length ps → length (with_item o (items_of ps)) ≤ length (p ∷ ps)
+      go None l = omega arith
+      go (Some x) l = omega arith
+
   -- the items of one place more
   pub items_more : (ps : List (MailPlace V)) (i : ℕ) (p : MailPlace V) → i < length ps → p ≡ get_or ps i p → items_of (take (i + 1) ps) ≡ items_of (take i ps) ++ with_item (item_of p) []
   items_more ps i p h r =
       ap items_of (take_more ps i p h ∙ ap (λ q. take i ps ++ q ∷ []) (sym r)) ∙ items_append (take i ps) (p ∷ [])
-
-  reply_by : (k : Option MailKind) (p : MailPlace V) → holds_of (is_reply_to p.receiver) (item_by k p) ≡ true → (a : ℕ) × (t : ℕ) × (c : Option (Copy V)) × (item_by k p ≡ Some (reply a p.receiver t c))
-  reply_by None p e = absurd (false≢true e)
-  reply_by (Some Write) p e = absurd (false≢true e)
-  reply_by (Some Inquiry) p e = absurd (false≢true e)
-  reply_by (Some Reply) p e = (p.sender, p.sent, copy_of p.stamp p.value, refl)
-
-  -- the place has a REPLY to its receiver
-  pub reply_at : (p : MailPlace V) → holds_of (is_reply_to p.receiver) (item_of p) ≡ true → (a : ℕ) × (t : ℕ) × (c : Option (Copy V)) × (item_of p ≡ Some (reply a p.receiver t c))
-  reply_at p e = reply_by p.kind p e
-
-  other_by : (k : Option MailKind) (p : MailPlace V) → not (is_some (item_by k p)) ≡ false → holds_of (is_reply_to p.receiver) (item_by k p) ≡ false → (i : Item V) × (item_by k p ≡ Some i) × ((y : ℕ) → is_reply_to y i ≡ false)
-  other_by None p e f = absurd (false≢true (sym e))
-  other_by (Some Write) p e f = (write p.sender p.receiver p.sent (copy_of p.stamp p.value), refl, λ y. refl)
-  other_by (Some Inquiry) p e f = (inquiry p.sender p.receiver p.sent, refl, λ y. refl)
-  other_by (Some Reply) p e f = absurd (false≢true (sym f ∙ eq-eqb p.receiver p.receiver refl))
-
-  -- the place has an item that is no REPLY
-  pub other_at : (p : MailPlace V) → is_empty p ≡ false → holds_of (is_reply_to p.receiver) (item_of p) ≡ false → (i : Item V) × (item_of p ≡ Some i) × ((y : ℕ) → is_reply_to y i ≡ false)
-  other_at p e f = other_by p.kind p e f
 
   name_found : {x k : ℕ} {hs : List (Head V)} → Found (λ h. is_named x (head_of h)) hs k → get_or (map (λ h. h.name) hs) k 0 ≡ x
   name_found {x} (here {x = h} e) = eqb-true h.name x e
@@ -117,65 +103,48 @@ module _ {V : Type 0} (hs : List (Head V)) where
       none : (a : ℕ) → ◌≡◌ {A = Option ℕ} None (Some a) → ⊥
       none a w = let z : ◌≡◌ {A = ℕ} 0 1 = cc in absurd (omega arith)
 
-  pub none_counted : length hs ≤ 64 → Counted hs [] (record { items = 0; replies = replicate 64 0 })
+  pub none_counted : length hs ≤ 64 → Counted hs [] 0 (replicate 64 0)
   none_counted l = record { all = refl; each = λ x k e. get_or-replicate 64 k 0 0 (place_counted l x k e) }
 
-  module _ (items : List (Item V)) (c : Counts) (counted : Counted hs items c) where
-    pub replies_few : (x k : ℕ) → place_named x hs ≡ Some k → get_or c.replies k 0 ≤ c.items
-    replies_few x k e = omega (arith, counted.all, counted.each x k e, length_dropping x items)
-
+  module _ (items : List (Item V)) (n : ℕ) (rs : List ℕ) (counted : Counted hs items n rs) where
     -- one more that is a REPLY to no head
-    pub other_counted : (i : Item V) → ((y j : ℕ) → place_named y hs ≡ Some j → is_reply_to y i ≡ false) → Counted hs (items ++ i ∷ []) (record { items = c.items + 1; replies = c.replies })
+    pub other_counted : (i : Item V) → ((y j : ℕ) → place_named y hs ≡ Some j → is_reply_to y i ≡ false) → Counted hs (items ++ i ∷ []) (n + 1) rs
     other_counted i none =
         record {
           all = omega (arith, counted.all, length_push items i);
           each = λ y j f. counted.each y j f ∙ sym (replies_push items i y ∙ ap (λ b. replies_to items y + cond b 1 0) (none y j f) ∙ add-zero (replies_to items y));
         }
 
-    pub reply_passed : (a x t : ℕ) (cp : Option (Copy V)) → place_named x hs ≡ None → Counted hs (items ++ reply a x t cp ∷ []) (record { items = c.items + 1; replies = c.replies })
+    pub reply_passed : (a x t : ℕ) (cp : Option (Copy V)) → place_named x hs ≡ None → Counted hs (items ++ reply a x t cp ∷ []) (n + 1) rs
     reply_passed a x t cp e = other_counted (reply a x t cp) (λ y j f. no_place x y j e f)
 
-    set_each : (x k v : ℕ) → place_named x hs ≡ Some k → k < length c.replies → (y j : ℕ) → place_named y hs ≡ Some j → get_or (set c.replies k v) j 0 ≡ cond (eqb x y) v (replies_to items y)
+    set_each : (x k v : ℕ) → place_named x hs ≡ Some k → k < length rs → (y j : ℕ) → place_named y hs ≡ Some j → get_or (set rs k v) j 0 ≡ cond (eqb x y) v (replies_to items y)
     set_each x k v e h y j f =
         elim (cases_eq k j) [
           | inl q ↦
-              ap (λ i. get_or (set c.replies k v) i 0) (sym q)
-              ∙ get_or-set_same c.replies k v 0 h
+              ap (λ i. get_or (set rs k v) i 0) (sym q)
+              ∙ get_or-set_same rs k v 0 h
               ∙ sym (ap (λ b. cond b v (replies_to items y)) (same_place x y k j e f ∙ eq-eqb k j q))
           | inr d ↦
-              get_or-set_other c.replies k j v 0 (λ q. d (sym q))
+              get_or-set_other rs k j v 0 (λ q. d (sym q))
               ∙ counted.each y j f
               ∙ sym (ap (λ b. cond b v (replies_to items y)) (same_place x y k j e f ∙ ne_eqb k j d))
         ]
 
-    pub reply_counted : (a x t : ℕ) (cp : Option (Copy V)) (k : ℕ) → place_named x hs ≡ Some k → k < length c.replies → Counted hs (items ++ reply a x t cp ∷ []) (record { items = c.items + 1; replies = set c.replies k (get_or c.replies k 0 + 1) })
+    pub reply_counted : (a x t : ℕ) (cp : Option (Copy V)) (k : ℕ) → place_named x hs ≡ Some k → k < length rs → Counted hs (items ++ reply a x t cp ∷ []) (n + 1) (set rs k (get_or rs k 0 + 1))
     reply_counted a x t cp k e h =
         record {
           all = omega (arith, counted.all, length_push items (reply a x t cp));
-          each = λ y j f. set_each x k (get_or c.replies k 0 + 1) e h y j f ∙ go y j f (eqb x y) refl ∙ sym (replies_push items (reply a x t cp) y);
+          each = λ y j f. set_each x k (get_or rs k 0 + 1) e h y j f ∙ go y j f (eqb x y) refl ∙ sym (replies_push items (reply a x t cp) y);
         }
       where
-        go : (y j : ℕ) → place_named y hs ≡ Some j → (b : Bool) → eqb x y ≡ b → cond b (get_or c.replies k 0 + 1) (replies_to items y) ≡ replies_to items y + cond b 1 0
+        go : (y j : ℕ) → place_named y hs ≡ Some j → (b : Bool) → eqb x y ≡ b → cond b (get_or rs k 0 + 1) (replies_to items y) ≡ replies_to items y + cond b 1 0
         go y j f true q = ap (λ n. n + 1) (counted.each x k e ∙ ap (replies_to items) (eqb-true x y q))
         go y j f false q = omega arith
 
-    pub dropped_counted : (x k : ℕ) → place_named x hs ≡ Some k → k < length c.replies → Counted hs (dropping (is_reply_to x) items) (record { items = c.items - get_or c.replies k 0; replies = set c.replies k 0 })
+    pub dropped_counted : (x k : ℕ) → place_named x hs ≡ Some k → k < length rs → Counted hs (dropping (is_reply_to x) items) (n - get_or rs k 0) (set rs k 0)
     dropped_counted x k e h =
         record {
           all = omega (arith, counted.all, counted.each x k e, length_dropping x items);
           each = λ y j f. set_each x k 0 e h y j f ∙ sym (replies_dropping x y items);
         }
-
-    module _ (p : MailPlace V) where
-      pub empty_place : true ≡ is_empty p → Counted hs (items ++ with_item (item_of p) []) c
-      empty_place e = go (item_of p) e
-        where
-          go : (o : Option (Item V)) → true ≡ not (is_some o) → Counted hs (items ++ with_item o []) c
-          go None f = subst (λ is. Counted hs is c) (sym (append-nil items)) counted
-          go (Some i) f = absurd (false≢true (sym f))
-
-      pub reply_place : (d : Counts) → true ≡ holds_of (is_reply_to p.receiver) (item_of p) → ((a t : ℕ) (cp : Option (Copy V)) → Counted hs (items ++ reply a p.receiver t cp ∷ []) d) → Counted hs (items ++ with_item (item_of p) []) d
-      reply_place d e f = let r = reply_at p (sym e) in subst (λ o. Counted hs (items ++ with_item o []) d) (sym r.3) (f r.0 r.1 r.2)
-
-      pub other_place : false ≡ is_empty p → false ≡ holds_of (is_reply_to p.receiver) (item_of p) → Counted hs (items ++ with_item (item_of p) []) (record { items = c.items + 1; replies = c.replies })
-      other_place e f = let r = other_at p (sym e) (sym f) in subst (λ o. Counted hs (items ++ with_item o []) (record { items = c.items + 1; replies = c.replies })) (sym r.1) (other_counted r.0 (λ y _ _. r.2 y))

@@ -1,30 +1,26 @@
 -- The counts after a head's turn, for each turn that it can take.
-use Rattle.std.proofs.Common.{◌≡◌, ℕ, ◌+◌, ◌<◌, ◌≤◌, Bool, true, false, cond, leb, List, [], ◌∷◌, ◌++◌, map, length, get_or, take, drop, is_some, Some, None, filter, Option, sym, refl, ap, ◌∙◌, subst, add-zero, arith}
+use Rattle.std.proofs.Common.{◌≡◌, ℕ, ◌+◌, ◌<◌, ◌≤◌, Bool, true, false, cond, leb, List, [], ◌∷◌, ◌++◌, map, length, get_or, take, drop, is_some, Some, None, Ok, Err, filter, Option, Result, sym, refl, ap, ◌∙◌, subst, add-zero, arith}
 use Rattle.std.proofs.lemmas.List.Elements.{filter-append}
 use Rattle.std.proofs.lemmas.List.{length-append, length-map, map_more, drop_all}
-use Rattle.std.proofs.lemmas.Bool.{leb-true, false≢true}
+use Rattle.std.proofs.lemmas.Bool.{cond-true, le-leb, leb-false, false≢true}
 use Rattle.protocol.specs.Heads.{Copy, Head as Told, inquiring_named}
 use Rattle.protocol.specs.Items.{Item, inquiry, reply, is_reply_to, dropping, put, to_each}
-use Rattle.protocol.specs.Tick.{Turn, rests, inquires, activates, strands, turn, turned, turned_by, turn_mail, turns_mail, then_do, is_activation, activates_or}
+use Rattle.protocol.specs.Tick.{Turn, activates, turn, turned, turned_by, turn_mail, turns_mail, then_do}
 use Rattle.tables.specs.declared.head.Head.{Head}
 use Rattle.tables.specs.HeadPlaces.{head_of, heads_of}
 use Rattle.tables.proofs.Searches.{drop_read}
-use Rattle.room.specs.declared.counts.Counts.{Counts}
+use Rattle.room.specs.declared.forecast.Forecast.{Forecast}
 use Rattle.room.specs.Amid.{turned_heads}
-use Rattle.room.specs.Counting.{replies_to, Counted, Followed}
+use Rattle.room.specs.Counting.{replies_to, Counted, Foresees, Followed}
+use Rattle.protocol.specs.declared.refusal.Refusal.{Refusal}
+use Rattle.protocol.specs.declared.refusal.Refusal.TheVariants.{NoRoom}
+use Rattle.records.specs.Passing.{Passes}
 
 module _ {V : Type 0} where
-  -- a turn that activates has a copy
-  pub copy_taken : (t : Turn V) → is_activation t ≡ true → (c : Copy V) × (t ≡ activates c)
-  copy_taken rests e = absurd (false≢true e)
-  copy_taken inquires e = absurd (false≢true e)
-  copy_taken (activates c) e = (c, refl)
-  copy_taken strands e = absurd (false≢true e)
-
-  -- without one the head rests
-  pub no_copy : (o : Option (Copy V)) → is_activation (activates_or rests o) ≡ false → activates_or rests o ≡ rests
-  no_copy None e = refl
-  no_copy (Some c) e = absurd (false≢true (sym e))
+  -- a copy that is there
+  pub copy_there : (o : Option (Copy V)) → true ≡ is_some o → (c : Copy V) × (o ≡ Some c)
+  copy_there None e = absurd (false≢true (sym e))
+  copy_there (Some c) e = (c, refl)
 
   no_replies : (a t y : ℕ) (hs : List (Told V)) → filter (is_reply_to y) (to_each (λ b. inquiry a b t) hs) ≡ []
   no_replies a t y [] = refl
@@ -37,98 +33,105 @@ module _ {V : Type 0} where
       ∙ ap (λ l. replies_to items y + length l) (no_replies a t y hs)
       ∙ add-zero (replies_to items y)
 
-abbrev with_items : Counts → ℕ → Counts
-with_items c m = record { items = c.items + m; replies = c.replies }
+module _ {V : Type 0} (hs : List (Head V)) (places : ℕ) (items : List (Item V)) where
+  pub inquiries_counted : (a t n : ℕ) (rs : List ℕ) (others : List (Told V)) → Counted hs items n rs → Counted hs (items ++ to_each (λ b. inquiry a b t) others) (n + length others) rs
+  inquiries_counted a t n rs others d =
+      let new : List (Item V) = to_each (λ b. inquiry a b t) others in
+      record {
+        all = omega (arith, d.all, length-append items new, length-map {B = Item V} others (λ k. inquiry a k.name t));
+        each = λ y k f. d.each y k f ∙ sym (inquiries_added a t items y others);
+      }
 
-module _ {V : Type 0} (hs : List (Head V)) (places now : ℕ) (before : List (Told V)) (h : Told V) (after : List (Told V)) (items : List (Item V)) (t : Turn V) where
-  abbrev After : Option Counts → Turn V → Type 0
-  After r u = Followed places hs (turn_mail places now before h after items u) r
+  -- what is put and foreseen finds room
+  pub put_followed : (new : List (Item V)) (f : Forecast V) → Foresees hs places (items ++ new) f → Followed hs places (put places items new) (Ok tt) f
+  put_followed new f d =
+      subst (λ o. Followed hs places o (Ok tt) f)
+      (sym (cond-true (leb (length items + length new) places) (Some (items ++ new)) None (le-leb (length items + length new) places (omega (arith, d.counted.all, d.size, f.within, length-append items new)))))
+      (refl, d)
 
-  pub rest_followed : (c : Counts) → t ≡ rests → c.items ≤ places → Counted hs items c → After (Some c) t
-  rest_followed c e l d = subst (After (Some c)) (sym e) (c, refl, l, d)
+-- where there is no room, that is why it is refused
+pub no_room_found : (n places : ℕ) (why : Refusal) → cond (leb n places) None (Some NoRoom) ≡ Some why → (places < n) × (NoRoom ≡ why)
+no_room_found n places why e = go (leb n places) refl e
+  where
+    go : (b : Bool) → leb n places ≡ b → cond b None (Some NoRoom) ≡ Some why → (places < n) × (NoRoom ≡ why)
+    go true l q = let z : ◌≡◌ {A = ℕ} 0 1 = cc in absurd (omega arith)
+    go false l q = (leb-false n places l, cc)
 
-  pub strand_followed : (c : Counts) → t ≡ strands → c.items ≤ places → Counted hs (dropping (is_reply_to h.name) items) c → After (Some c) t
-  strand_followed c e l d = subst (After (Some c)) (sym e) (c, refl, l, d)
+module _ {V : Type 0} (hs : List (Head V)) (places now : ℕ) (before : List (Told V)) (h : Told V) (after : List (Told V)) (items : List (Item V)) (t : Turn V) (r : Result (Unit {0}) Refusal) (f : Forecast V) where
+  abbrev After : Turn V → Type 0
+  After u = Followed hs places (turn_mail places now before h after items u) r f
 
-  abbrev new : List (Item V)
-  new = to_each (λ b. inquiry h.name b now) (before ++ after)
+  pub turn_followed : (u : Turn V) → t ≡ u → After u → After t
+  turn_followed u e q = subst After (sym e) q
 
-  module _ (c : Counts) (m : ℕ) (r : Option Counts) (n : length (before ++ after) ≡ m) (d : Counted hs items c) where
-    total : c.items + m ≡ length items + length new
-    total = omega (arith, d.all, n, length-map {B = Item V} (before ++ after) (λ k. inquiry h.name k.name now))
-
-    inquired : (b : Bool) → leb (c.items + m) places ≡ b → Followed places hs (cond b (Some (items ++ new)) None) (cond b (Some (with_items c m)) None)
-    inquired true w =
-        (with_items c m, refl, leb-true (c.items + m) places w, record { all = total ∙ sym (length-append items new); each = λ y k f. d.each y k f ∙ sym (inquiries_added h.name now items y (before ++ after)) })
-    inquired false w = refl
-
-    pub inquire_followed : t ≡ inquires → r ≡ cond (leb (c.items + m) places) (Some (with_items c m)) None → After r t
-    inquire_followed e q =
-        subst (After r) (sym e)
-        (subst (λ s. After s inquires) (sym q)
-        (subst (λ k. Followed places hs (cond (leb k places) (Some (items ++ new)) None) (cond (leb (c.items + m) places) (Some (with_items c m)) None)) total (inquired (leb (c.items + m) places) refl)))
-
-  pub activate_followed : (r : Option Counts) (c : Copy V) (mid : List (Told V)) → t ≡ activates c → before ++ turned_by now t h ∷ after ≡ mid → Followed places hs (put places (dropping (is_reply_to h.name) items) (map (λ x. reply h.name x now (Some c)) (filter (λ x. inquiring_named x mid) h.held))) r → After r t
-  activate_followed r c mid e m f =
-      subst (After r) (sym e)
-      (subst (λ ks. Followed places hs (put places (dropping (is_reply_to h.name) items) (map (λ x. reply h.name x now (Some c)) (filter (λ x. inquiring_named x ks) h.held))) r)
-      (sym m ∙ ap (λ u. before ++ turned_by now u h ∷ after) e) f)
+  pub activate_followed : (c : Copy V) (mid : List (Told V)) → t ≡ activates c → before ++ turned_by now t h ∷ after ≡ mid → Followed hs places (put places (dropping (is_reply_to h.name) items) (map (λ x. reply h.name x now (Some c)) (filter (λ x. inquiring_named x mid) h.held))) r f → After t
+  activate_followed c mid e m q =
+      turn_followed (activates c) e
+      (subst (λ ks. Followed hs places (put places (dropping (is_reply_to h.name) items) (map (λ x. reply h.name x now (Some c)) (filter (λ x. inquiring_named x ks) h.held))) r f)
+      (sym m ∙ ap (λ u. before ++ turned_by now u h ∷ after) e) q)
 
 -- the turns so far are counted, and what is left of them gives the mail
-abbrev pub Going : {V : Type 0} → List (Head V) → Counts → ℕ → ℕ → ℕ → ℕ → Counts → Type 0
-Going {V} hs start places delay now i c =
-    (c.items ≤ places)
-    × ((origin : List (Item V)) → Counted hs origin start →
-    (items : List (Item V)) × Counted hs items c × (turns_mail places delay now (turned_heads delay now (take i hs)) (heads_of (drop i hs)) items ≡ turns_mail places delay now [] (heads_of hs) origin))
+abbrev pub Going : {V : Type 0} → ℕ → ℕ → Forecast V → ℕ → Forecast V → Type 0
+Going {V} delay now start i f =
+    (hs : List (Head V)) (places : ℕ) (origin : List (Item V)) → Foresees hs places origin start →
+    (items : List (Item V)) × Foresees hs places items f × (turns_mail places delay now (turned_heads delay now (take i hs)) (heads_of (drop i hs)) items ≡ turns_mail places delay now [] (heads_of hs) origin)
 
-module _ {V : Type 0} (hs : List (Head V)) (start : Counts) (places delay now : ℕ) where
-  pub going_start : start.items ≤ places → Going hs start places delay now 0 start
-  going_start l = (l, λ origin d. (origin, d, refl))
+-- what the turns of all heads come to
+abbrev pub Foretold : {V : Type 0} → ℕ → ℕ → List (Head V) → ℕ → List (Item V) → Result (Unit {0}) Refusal → Type 0
+Foretold delay now hs places origin r = Passes (cond (is_some (turns_mail places delay now [] (heads_of hs) origin)) None (Some NoRoom)) r
 
-  module _ (i : ℕ) (c : Counts) (going : Going hs start places delay now i c) where
-    pub going_end : length hs ≤ i → (origin : List (Item V)) → Counted hs origin start → true ≡ is_some (turns_mail places delay now [] (heads_of hs) origin)
-    going_end l origin d =
-        let (items, counted, e) = going.1 origin d in
-        ap is_some (sym (ap (λ ks. turns_mail places delay now (turned_heads delay now (take i hs)) (heads_of ks) items) (drop_all i hs l)) ∙ e)
+module _ {V : Type 0} (delay now : ℕ) (start : Forecast V) where
+  pub going_start : Going delay now start 0 start
+  going_start hs places origin d = (origin, d, refl)
 
-    module _ (h : Head V) (l : i < length hs) (r : h ≡ get_or hs i h) where
-      abbrev made : List (Item V) → Option (List (Item V))
-      made items = turn_mail places now (turned_heads delay now (take i hs)) (head_of h) (heads_of (drop (i + 1) hs)) items (turn delay now (head_of h))
+  module _ (i : ℕ) (f : Forecast V) (going : Going delay now start i f) where
+    pub going_end : length start.heads.now ≤ i → (hs : List (Head V)) (places : ℕ) (origin : List (Item V)) → Foresees hs places origin start → Foretold delay now hs places origin (Ok tt)
+    going_end l hs places origin d =
+        let (items, counted, e) = going hs places origin d in
+        ap (λ o. cond (is_some o) None (Some NoRoom))
+        (sym e ∙ ap (λ ks. turns_mail places delay now (turned_heads delay now (take i hs)) (heads_of ks) items) (drop_all i hs (subst (λ ks. length ks ≤ i) d.lent l)))
 
-      abbrev rest : List (Item V) → Option (List (Item V))
-      rest items = turns_mail places delay now (turned_heads delay now (take (i + 1) hs)) (heads_of (drop (i + 1) hs)) items
+    module _ (h : Head V) (l : i < length start.heads.now) (s : h ≡ get_or start.heads.now i h) (r : Result (Unit {0}) Refusal) (next : Forecast V)
+        (one : (hs : List (Head V)) (places : ℕ) (is : List (Item V)) → i < length hs → h ≡ get_or hs i h → Foresees hs places is f → Followed hs places (turn_mail places now (turned_heads delay now (take i hs)) (head_of h) (heads_of (drop (i + 1) hs)) is (turn delay now (head_of h))) r next)
+      where
+        module _ (hs : List (Head V)) (places : ℕ) (origin : List (Item V)) (d : Foresees hs places origin start) where
+          abbrev made : List (Item V) → Option (List (Item V))
+          made items = turn_mail places now (turned_heads delay now (take i hs)) (head_of h) (heads_of (drop (i + 1) hs)) items (turn delay now (head_of h))
 
-      one_on : (items : List (Item V)) → turns_mail places delay now (turned_heads delay now (take i hs)) (heads_of (drop i hs)) items ≡ then_do (made items) rest
-      one_on items =
-          ap (λ ks. turns_mail places delay now (turned_heads delay now (take i hs)) (heads_of ks) items) (drop_read hs i h l r)
-          ∙ ap (λ ks. then_do (made items) (λ mail. turns_mail places delay now ks (heads_of (drop (i + 1) hs)) mail)) (sym (map_more (λ k. turned delay now (head_of k)) hs i h l ∙ ap (λ k. turned_heads delay now (take i hs) ++ turned delay now (head_of k) ∷ []) (sym r)))
+          abbrev rest : List (Item V) → Option (List (Item V))
+          rest items = turns_mail places delay now (turned_heads delay now (take (i + 1) hs)) (heads_of (drop (i + 1) hs)) items
 
-      pub going_stop : ((items : List (Item V)) → Counted hs items c → Followed places hs (made items) None) → (origin : List (Item V)) → Counted hs origin start → false ≡ is_some (turns_mail places delay now [] (heads_of hs) origin)
-      going_stop f origin d =
-          let (items, counted, e) = going.1 origin d in
-          go (made items) (f items counted) (sym (one_on items) ∙ e)
-        where
-          go : (o : Option (List (Item V))) → Followed places hs o None → then_do o rest ≡ turns_mail places delay now [] (heads_of hs) origin → false ≡ is_some (turns_mail places delay now [] (heads_of hs) origin)
-          go None q e = ap is_some e
-          go (Some mail) (k, z, m, w) e = let v : ◌≡◌ {A = ℕ} 0 1 = cc in absurd (omega arith)
+          inside : i < length hs
+          inside = subst (λ ks. i < length ks) d.lent l
 
-      module _ (next : Counts) (f : (items : List (Item V)) → Counted hs items c → Followed places hs (made items) (Some next)) where
-        one : (a b : Counts) → ◌≡◌ {A = Option Counts} (Some a) (Some b) → b ≡ a
-        one a b w = cc
+          here : h ≡ get_or hs i h
+          here = subst (λ ks. h ≡ get_or ks i h) d.lent s
 
-        next_within : (o : Option (List (Item V))) → Followed places hs o (Some next) → next.items ≤ places
-        next_within None q = let v : ◌≡◌ {A = ℕ} 0 1 = cc in absurd (omega arith)
-        next_within (Some mail) (k, z, m, w) = subst (λ x. x.items ≤ places) (one next k z) m
+          one_on : (items : List (Item V)) → turns_mail places delay now (turned_heads delay now (take i hs)) (heads_of (drop i hs)) items ≡ then_do (made items) rest
+          one_on items =
+              ap (λ ks. turns_mail places delay now (turned_heads delay now (take i hs)) (heads_of ks) items) (drop_read hs i h inside here)
+              ∙ ap (λ ks. then_do (made items) (λ mail. turns_mail places delay now ks (heads_of (drop (i + 1) hs)) mail)) (sym (map_more (λ k. turned delay now (head_of k)) hs i h inside ∙ ap (λ k. turned_heads delay now (take i hs) ++ turned delay now (head_of k) ∷ []) (sym here)))
 
-        next_counted : (origin : List (Item V)) (o : Option (List (Item V))) → Followed places hs o (Some next) → then_do o rest ≡ turns_mail places delay now [] (heads_of hs) origin → (items : List (Item V)) × Counted hs items next × (rest items ≡ turns_mail places delay now [] (heads_of hs) origin)
-        next_counted origin None q e = let v : ◌≡◌ {A = ℕ} 0 1 = cc in absurd (omega arith)
-        next_counted origin (Some mail) (k, z, m, w) e = (mail, subst (λ x. Counted hs mail x) (one next k z) w, e)
+          -- the mail after one turn more
+          pub one_more : (items : List (Item V)) × Followed hs places (made items) r next × (then_do (made items) rest ≡ turns_mail places delay now [] (heads_of hs) origin)
+          one_more =
+              let (items, counted, e) = going hs places origin d in
+              (items, one hs places items inside here counted, sym (one_on items) ∙ e)
 
-        pub going_more : (origin : List (Item V)) × Counted hs origin start → Going hs start places delay now (i + 1) next
-        going_more (origin, d) =
-            let (items, counted, e) = going.1 origin d in (
-              next_within (made items) (f items counted),
-              λ origin d.
-                  let (items, counted, e) = going.1 origin d in
-                  next_counted origin (made items) (f items counted) (sym (one_on items) ∙ e),
-            )
+        pub going_stop : (why : Refusal) → r ≡ Err why → (hs : List (Head V)) (places : ℕ) (origin : List (Item V)) → Foresees hs places origin start → Foretold delay now hs places origin (Err why)
+        going_stop why q hs places origin d =
+            let (items, f, e) = one_more hs places origin d in
+            go (made hs places origin d items) f e
+          where
+            go : (o : Option (List (Item V))) → Followed hs places o r next → then_do o (rest hs places origin d) ≡ turns_mail places delay now [] (heads_of hs) origin → Foretold delay now hs places origin (Err why)
+            go None f e = let z : why ≡ NoRoom = cc in ap (λ o. cond (is_some o) None (Some NoRoom)) (sym e) ∙ ap Some (sym z)
+            go (Some mail) (k, w) e = let v : ◌≡◌ {A = ℕ} 0 1 = cc in absurd (omega arith)
+
+        pub going_more : r ≡ Ok tt → Going delay now start (i + 1) next
+        going_more q hs places origin d =
+            let (items, f, e) = one_more hs places origin d in
+            go (made hs places origin d items) f e
+          where
+            go : (o : Option (List (Item V))) → Followed hs places o r next → then_do o (rest hs places origin d) ≡ turns_mail places delay now [] (heads_of hs) origin → (items : List (Item V)) × Foresees hs places items next × (rest hs places origin d items ≡ turns_mail places delay now [] (heads_of hs) origin)
+            go None f e = let v : ◌≡◌ {A = ℕ} 0 1 = cc in absurd (omega arith)
+            go (Some mail) (k, w) e = (mail, w, e)

@@ -1,5 +1,5 @@
 -- The first check that holds.
-use Rattle.std.proofs.Common.{◌≡◌, ℕ, ◌+◌, ◌<◌, ◌≤◌, Bool, true, false, cond, not, leb, List, [], ◌∷◌, length, is_some, Some, None, Option, sym, refl, ap, ◌∙◌}
+use Rattle.std.proofs.Common.{◌≡◌, ℕ, ◌+◌, ◌<◌, ◌≤◌, Bool, true, false, cond, not, leb, List, [], ◌∷◌, length, is_some, Some, None, Option, Result, sym, refl, ap, ◌∙◌, subst}
 use Rattle.std.proofs.lemmas.Bool.{lt-ltb, le-ltb, le-leb, lt-leb}
 use Rattle.protocol.specs.declared.refusal.Refusal.{Refusal}
 use Rattle.protocol.specs.declared.refusal.Refusal.TheVariants.{ForeignTables, LastTick, MailDue, NoRoom}
@@ -8,6 +8,7 @@ use Rattle.protocol.specs.Places.{first}
 use Rattle.protocol.specs.Heads.{holds_of}
 use Rattle.protocol.specs.Items.{Item, is_due}
 use Rattle.protocol.specs.Sites.{refused_by}
+use Rattle.records.specs.Passing.{Passes}
 use Rattle.tables.specs.declared.head.Head.{Head}
 use Rattle.tables.specs.declared.mail.MailPlace.{MailPlace}
 use Rattle.tables.specs.FirstPlaces.{place_from}
@@ -32,8 +33,8 @@ abbrev answer : Bool → Bool → Bool → Bool → Option Refusal
 answer a b c d = cond a (Some ForeignTables) (cond b (Some LastTick) (cond c (Some MailDue) (cond (not d) (Some NoRoom) None)))
 
 module _ {V : Type 0} (hs : List (Head V)) (ms : List (MailPlace V)) (delay time : ℕ) where
-  pub too_many : 64 < length hs → Some ForeignTables ≡ refused_by (checks hs ms delay time) None
-  too_many l = sym (ap (λ a. answer a (leb last_tick time) (mail_due ms delay time) (finds_room hs ms delay time)) (lt-ltb 64 (length hs) l))
+  pub too_many : 64 < length hs → refused_by (checks hs ms delay time) None ≡ Some ForeignTables
+  too_many l = ap (λ a. answer a (leb last_tick time) (mail_due ms delay time) (finds_room hs ms delay time)) (lt-ltb 64 (length hs) l)
 
   module _ (few : length hs ≤ 64) where
     by_time : (b : Bool) → leb last_tick time ≡ b → refused_by (checks hs ms delay time) None ≡ answer false b (mail_due ms delay time) (finds_room hs ms delay time)
@@ -41,8 +42,8 @@ module _ {V : Type 0} (hs : List (Head V)) (ms : List (MailPlace V)) (delay time
         ap (λ a. answer a (leb last_tick time) (mail_due ms delay time) (finds_room hs ms delay time)) (le-ltb 64 (length hs) few)
         ∙ ap (λ b. answer false b (mail_due ms delay time) (finds_room hs ms delay time)) e
 
-    pub at_last : 268435454 ≤ time → Some LastTick ≡ refused_by (checks hs ms delay time) None
-    at_last l = sym (by_time true (le-leb 268435454 time l))
+    pub at_last : 268435454 ≤ time → refused_by (checks hs ms delay time) None ≡ Some LastTick
+    at_last l = by_time true (le-leb 268435454 time l)
 
     module _ (more : time < 268435454) where
       by_place : (o : Option ℕ) → place_due delay time ms ≡ o → refused_by (checks hs ms delay time) None ≡ answer false false (is_some o) (finds_room hs ms delay time)
@@ -50,12 +51,13 @@ module _ {V : Type 0} (hs : List (Head V)) (ms : List (MailPlace V)) (delay time
           by_time false (lt-leb 268435454 time more)
           ∙ ap (λ c. answer false false c (finds_room hs ms delay time)) (sym (placed_some (is_due delay time) ms 0) ∙ ap is_some e)
 
-      pub overdue : (i : ℕ) → place_due delay time ms ≡ Some i → Some MailDue ≡ refused_by (checks hs ms delay time) None
-      overdue i e = sym (by_place (Some i) e)
+      pub overdue : (i : ℕ) → place_due delay time ms ≡ Some i → refused_by (checks hs ms delay time) None ≡ Some MailDue
+      overdue i e = by_place (Some i) e
 
       module _ (none : place_due delay time ms ≡ None) where
-        pub allowed : true ≡ finds_room hs ms delay time → None ≡ refused_by (checks hs ms delay time) None
-        allowed e = sym (by_place None none ∙ ap (λ d. answer false false false d) (sym e))
+        by_turns : (b : Bool) → cond b None (Some NoRoom) ≡ cond (not b) (Some NoRoom) None
+        by_turns true = refl
+        by_turns false = refl
 
-        pub no_room : false ≡ finds_room hs ms delay time → Some NoRoom ≡ refused_by (checks hs ms delay time) None
-        no_room e = sym (by_place None none ∙ ap (λ d. answer false false false d) (sym e))
+        pub foretold : (r : Result (Unit {0}) Refusal) → Passes (cond (finds_room hs ms delay time) None (Some NoRoom)) r → Passes (refused_by (checks hs ms delay time) None) r
+        foretold r p = subst (λ o. Passes o r) (by_turns (finds_room hs ms delay time) ∙ sym (by_place None none)) p

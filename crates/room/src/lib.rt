@@ -2,6 +2,7 @@
 #![tactic(auto)]
 
 mod counting;
-mod counts;
+mod forecast;
+mod survey;
 pub mod tick;
 mod turns;

@@ -1,11 +1,12 @@
 // A tick, before anything is altered.
 ghost use Rattle.std.specs.Prelude.{◌≡◌, ◌-◌, None};
 ghost use Rattle.protocol.specs.Sites.{refused_by};
+ghost use Rattle.records.specs.Passing.{Passes};
 ghost use Rattle.room.specs.Checks.{checks};
 
-use crate::counting::survey;
-use crate::turns::has_room;
+use crate::survey::survey;
 use protocol::refusal::Refusal;
+use records::clock::Clock;
 use tables::head::Head;
 use tables::mail::MailPlace;
 
@@ -15,29 +16,25 @@ const MOST_HEADS: usize = 64;
 // The clock goes no further.
 const LAST_TICK: u32 = 268_435_454;
 
-// Why the tick that moves the clock on from this time is refused, if it is: more than 64 heads, the clock at its end, an item that has to be brought before, or one that would find no place.
+// Whether the tick that moves the clock on can be made, or why it is refused: more than 64 heads, the clock at its end, an item that has to be brought before, or one that would find no place.
 pub fn foresee<V: Copy>(
     heads: &[Head<V>],
     mail: &[MailPlace<V>],
-    delay: u32,
-    time: u32,
-) -> Option<Refusal>
-    ensures { result ≡ refused_by (checks heads.now mail.now delay time) None }
+    clock: Clock,
+) -> Result<(), Refusal>
+    ensures { Passes (refused_by (checks heads.now mail.now clock.delay clock.time) None) result }
 {
     if heads.len() > MOST_HEADS {
-        return Some(Refusal::ForeignTables);
+        return Err(Refusal::ForeignTables);
     }
-    if time >= LAST_TICK {
-        return Some(Refusal::LastTick);
+    if clock.time >= LAST_TICK {
+        return Err(Refusal::LastTick);
     }
-    match survey(heads, mail, delay, time) {
-        Err(_) => Some(Refusal::MailDue),
-        Ok(counts) => {
-            if has_room(heads, counts, mail.len(), delay, time + 1) {
-                None
-            } else {
-                Some(Refusal::NoRoom)
-            }
-        }
-    }
+    let Ok(mut forecast) = survey(heads, mail, clock) else {
+        return Err(Refusal::MailDue);
+    };
+    forecast.follow_all(Clock {
+        time: clock.time + 1,
+        ..clock
+    })
 }

@@ -1,2 +1,4 @@
+pub mod CallKinds
 pub mod Scripts
 pub mod Openings
+pub mod Texts

@@ -2,12 +2,15 @@
 use Rattle.std.specs.Prelude.{ℕ, zero, suc, ◌+◌, Bool, cond, ◌&&◌, List, length, Some, None, Ok, Err, Option, Result, ◌==◌, nat_lt, slice_index}
 use Rattle.plans.specs.declared.Plan.{Plan}
 use Rattle.protocol.specs.declared.kind.MailKind.{MailKind}
-use Rattle.protocol.specs.declared.kind.MailKind.TheVariants.{Write as WRITE, Inquiry as INQUIRY, Reply as REPLY}
 use Rattle.protocol.specs.declared.call.Call.{Call}
 use Rattle.protocol.specs.declared.call.Call.TheVariants.{Swap, Read, Write, Bring, Tick, Look}
 use Rattle.words.specs.Words.{kind_of, number_of}
 use Rattle.script.specs.declared.BadWord.{BadWord}
 use Rattle.script.specs.declared.Opening.{Opening}
+use Rattle.script.specs.declared.call_kind.CallKind.{CallKind}
+use Rattle.script.specs.declared.call_kind.CallKind.TheVariants.{Swap as SWAP, Read as READ, Write as WRITE, Bring as BRING, Tick as TICK}
+use Rattle.script.specs.declared.call_kind.NoCall.{NoCall}
+use Rattle.script.specs.CallKinds.{call_kind}
 
 -- the number of the word at an index
 abbrev pub number_at : List ℕ → ℕ → ℕ
@@ -38,20 +41,18 @@ wrong_at i = Err (record { index = i })
 abbrev pub bring_at : MailKind → List ℕ → ℕ → Result (Call Plan) BadWord
 bring_at kind ws i = unless (bad_from ws 2 (i + 1) 1) (Bring kind (number_at ws i) (number_at ws (i + 1)))
 
--- the call that a word of this kind begins: 9 swap, 10 read, 11 write, 12 to 14 bring, 15 tick with number 0
-abbrev pub call_by : ℕ → List ℕ → ℕ → Result (Call Plan) BadWord
-call_by kind ws i =
-    cond (kind == 9) (Ok (Swap (number_at ws i)))
-    (cond (kind == 10) (Ok (Read (number_at ws i)))
-    (cond (kind == 11) (unless (bad_from ws 4 (i + 1) 3) (Write (number_at ws i) (plan_at ws (i + 1))))
-    (cond (kind == 12) (bring_at WRITE ws i)
-    (cond (kind == 13) (bring_at INQUIRY ws i)
-    (cond (kind == 14) (bring_at REPLY ws i)
-    (cond (kind == 15 && number_at ws i == 0) (Ok Tick) (wrong_at i)))))))
+-- the call of this kind whose first word stands at the index i; a tick has the number 0
+abbrev pub call_of : Result CallKind NoCall → List ℕ → ℕ → Result (Call Plan) BadWord
+call_of (Ok SWAP) ws i = Ok (Swap (number_at ws i))
+call_of (Ok READ) ws i = Ok (Read (number_at ws i))
+call_of (Ok WRITE) ws i = unless (bad_from ws 4 (i + 1) 3) (Write (number_at ws i) (plan_at ws (i + 1)))
+call_of (Ok (BRING kind)) ws i = bring_at kind ws i
+call_of (Ok TICK) ws i = cond (number_at ws i == 0) (Ok Tick) (wrong_at i)
+call_of (Err e) ws i = wrong_at i
 
 -- the call whose first word stands at the index i
 abbrev pub call_at : List ℕ → ℕ → Result (Call Plan) BadWord
-call_at ws i = call_by (kind_of (slice_index ws i)) ws i
+call_at ws i = call_of (call_kind (kind_of (slice_index ws i))) ws i
 
 -- how many words tell a call
 abbrev pub call_size : Call Plan → ℕ

@@ -1,21 +1,32 @@
 // A site and its calls as words.
 #![tactic(auto)]
 
-ghost use Rattle.std.specs.Prelude.{◌≡◌, ◌+◌, ◌<◌, length};
-ghost use Rattle.protocol.specs.declared.call.Call.TheVariants.{Write as WriteCall};
-ghost use Rattle.script.specs.Scripts.{number_at, has_kind, bad_from, plan_at, unless, bring_at, call_at, call_size, opening_of, next_call, next_index};
-ghost use Rattle.script.specs.Openings.{Opened};
+ghost use Rattle.std.specs.Prelude.{◌≡◌, ◌+◌, ◌^◌, ◌<◌, length, slice_index, Some, IfOk, IfSome};
+ghost use Rattle.protocol.specs.declared.call.Call.TheVariants.{Write as WriteCall, Bring as BringCall};
+ghost use Rattle.script.specs.Scripts.{number_at, bad_from, plan_at, unless, call_at, call_size, opening_of, next_call, next_index};
+ghost use Rattle.script.specs.Texts.{bad_word_text};
 
-use kinds::value::number_at;
+use crate::call_kind::CallKind;
 use plans::Plan;
 use protocol::call::Call;
 use protocol::kind::MailKind;
+use std::fmt;
 use words::{kind, number};
+
+mod call_kind;
 
 // A word that is missing, short or wrong, by its index.
 #[derive(Clone, Copy, PartialEq, Eq, Debug)]
 pub struct BadWord {
     pub index: usize,
+}
+
+impl fmt::Display for BadWord {
+    ghost output = { λ bad. Some (bad_word_text bad.index) };
+
+    fn fmt<W: fmt::Write>(&self, f: &mut fmt::Formatter<W>) -> fmt::Result {
+        write!(f, "bad word {}", self.index)
+    }
 }
 
 // What a site is made with.
@@ -33,130 +44,122 @@ pub struct Script<'a> {
     words: &'a [u32],
     short: bool,
     at: usize,
+    // the few words behind `at` have an index too
+    ghost small: { at < 2 ^ 63 },
 }
 
 impl<'a> Script<'a> {
+    ghost use Rattle.script.specs.Openings.{Opened};
+
     // The site that the first six words make, and a reader of the calls behind them.
     pub fn open(words: &'a [u32], short: bool) -> Result<(Opening, Script<'a>), BadWord>
         ensures { Opened words.now short result }
     {
         let opening = read_opening(words)?;
-        Ok((
-            opening,
-            Script {
-                words,
-                short,
-                at: 6,
-            },
-        ))
+        let calls = Script {
+            words,
+            short,
+            at: 6,
+        };
+        Ok((opening, calls))
     }
 
-    // The next call, no call at the end, or the first bad word; then it stays where it is.
+    // The next call, no call at the end, or the first bad word; then it stays where it is. It is no Iterator: a loop over it would not end at a bad word.
     pub fn next(&mut self) -> Result<Option<Call<Plan>>, BadWord>
         ensures call { result ≡ next_call self.old.words.now self.old.short self.old.at }
         ensures moved { self.new.at ≡ next_index self.old.at result }
+        ensures onward { IfOk result (λ told. IfSome told (λ _. (self.old.at < length self.old.words.now) × (self.old.at < self.new.at))) }
         ensures kept { (self.new.words ≡ self.old.words) × (self.new.short ≡ self.old.short) }
     {
-        let Script { words, short, at } = *self;
-        let call = call_at_or_end(words, short, at);
-        if let Ok(Some(c)) = call {
-            *self = Script {
-                words,
-                short,
-                at: at + size_of_call(&c),
-            };
+        let call = self.call_or_end()?;
+        if let Some(call) = call {
+            self.at += size_of_call(&call);
         }
-        call
+        Ok(call)
     }
-}
 
-// The number of the word at an index, and 0 where there is none.
-fn number_of_word(words: &[u32], i: usize) -> u32
-    ensures { result ≡ number_at words.now i }
-{
-    number(number_at(words, i))
-}
-
-// Whether there is a word at the index, with this kind.
-fn is_kind(words: &[u32], wanted: u32, i: usize) -> bool
-    ensures { result ≡ has_kind words.now wanted i }
-{
-    i < words.len() && kind(words[i]) == wanted
-}
-
-// The first of `count` words from the index on that is missing or has another kind.
-fn bad_from(words: &[u32], wanted: u32, from: usize, count: usize) -> Option<usize>
-    requires { from + count < 18446744073709551616 }
-    ensures { result ≡ bad_from words.now wanted from count }
-{
-    for i in from..from + count {
-        if !is_kind(words, wanted, i) {
-            return Some(i);
+    // What comes next: a call, a bad word or the end.
+    fn call_or_end(&self) -> Result<Option<Call<Plan>>, BadWord>
+        ensures { result ≡ next_call self.now.words.now self.now.short self.now.at }
+    {
+        match self.words.get(self.at) {
+            Some(&first) => self.read_call(first).map(Some),
+            None if self.short => Err(BadWord {
+                index: self.words.len(),
+            }),
+            None => Ok(None),
         }
     }
-    None
-}
 
-// The plan in three words.
-fn read_plan(words: &[u32], from: usize) -> Plan
-    requires { from + 3 < 18446744073709551616 }
-    ensures { result ≡ plan_at words.now from }
-{
-    Plan {
-        cycle: number_of_word(words, from),
-        offset: number_of_word(words, from + 1),
-        green: number_of_word(words, from + 2),
-    }
-}
-
-// The write whose first word stands at the index.
-fn read_write(words: &[u32], i: usize) -> Result<Call<Plan>, BadWord>
-    requires { i + 4 < 18446744073709551616 }
-    ensures { result ≡ unless (bad_from words.now 4 (i + 1) 3) (WriteCall (number_at words.now i) (plan_at words.now (i + 1))) }
-{
-    match bad_from(words, 4, i + 1, 3) {
-        Some(index) => Err(BadWord { index }),
-        None => Ok(Call::Write {
-            name: number_of_word(words, i),
-            value: read_plan(words, i + 1),
-        }),
-    }
-}
-
-// The bring whose first word stands at the index.
-fn read_bring(words: &[u32], i: usize, kind: MailKind) -> Result<Call<Plan>, BadWord>
-    requires { i + 2 < 18446744073709551616 }
-    ensures { result ≡ bring_at kind words.now i }
-{
-    match bad_from(words, 2, i + 1, 1) {
-        Some(index) => Err(BadWord { index }),
-        None => {
-            let sender = number_of_word(words, i);
-            let receiver = number_of_word(words, i + 1);
-            Ok(Call::Bring {
-                kind,
-                sender,
-                receiver,
-            })
+    // The call whose first word comes next.
+    fn read_call(&self, first: u32) -> Result<Call<Plan>, BadWord>
+        requires { first ≡ slice_index self.now.words.now self.now.at }
+        ensures { result ≡ call_at self.now.words.now self.now.at }
+    {
+        let bad = BadWord { index: self.at };
+        let name = number(first);
+        match CallKind::try_from(kind(first)).map_err(|_| bad)? {
+            CallKind::Swap => Ok(Call::Swap { name }),
+            CallKind::Read => Ok(Call::Read { name }),
+            CallKind::Write => self.read_write(name),
+            CallKind::Bring(kind) => self.read_bring(kind, name),
+            CallKind::Tick if name == 0 => Ok(Call::Tick),
+            CallKind::Tick => Err(bad),
         }
     }
+
+    // The write by this head, whose plan stands behind the next word.
+    fn read_write(&self, name: u32) -> Result<Call<Plan>, BadWord>
+        ensures { result ≡ unless (bad_from self.now.words.now 4 (self.now.at + 1) 3) (WriteCall name (plan_at self.now.words.now (self.now.at + 1))) }
+    {
+        let value = read_plan(self.words, self.at + 1)?;
+        Ok(Call::Write { name, value })
+    }
+
+    // The bring from this sender, whose receiver stands behind the next word.
+    fn read_bring(&self, kind: MailKind, sender: u32) -> Result<Call<Plan>, BadWord>
+        ensures { result ≡ unless (bad_from self.now.words.now 2 (self.now.at + 1) 1) (BringCall kind sender (number_at self.now.words.now (self.now.at + 1))) }
+    {
+        let receiver = read_number(self.words, 2, self.at + 1)?;
+        Ok(Call::Bring {
+            kind,
+            sender,
+            receiver,
+        })
+    }
 }
 
-// The call whose first word stands at the index.
-fn read_call(words: &[u32], i: usize) -> Result<Call<Plan>, BadWord>
-    requires { i < length words.now }
-    ensures { result ≡ call_at words.now i }
+// What the first six words make.
+fn read_opening(words: &[u32]) -> Result<Opening, BadWord>
+    ensures { result ≡ opening_of words.now }
 {
-    let name = number_of_word(words, i);
-    match kind(words[i]) {
-        9 => Ok(Call::Swap { name }),
-        10 => Ok(Call::Read { name }),
-        11 => read_write(words, i),
-        12 => read_bring(words, i, MailKind::Write),
-        13 => read_bring(words, i, MailKind::Inquiry),
-        14 => read_bring(words, i, MailKind::Reply),
-        15 if name == 0 => Ok(Call::Tick),
-        _ => Err(BadWord { index: i }),
+    Ok(Opening {
+        heads: read_number(words, 0, 0)?,
+        delay: read_number(words, 0, 1)?,
+        swap_limit: read_number(words, 0, 2)?,
+        start: read_plan(words, 3)?,
+    })
+}
+
+// The plan in three words from the index on.
+fn read_plan(words: &[u32], from: usize) -> Result<Plan, BadWord>
+    requires { from + 2 < 2 ^ 64 }
+    ensures { result ≡ unless (bad_from words.now 4 from 3) (plan_at words.now from) }
+{
+    Ok(Plan {
+        cycle: read_number(words, 4, from)?,
+        offset: read_number(words, 4, from + 1)?,
+        green: read_number(words, 4, from + 2)?,
+    })
+}
+
+// The number of the word at the index, if there is a word of this kind.
+fn read_number(words: &[u32], wanted: u32, index: usize) -> Result<u32, BadWord>
+    ensures { result ≡ unless (bad_from words.now wanted index 1) (number_at words.now index) }
+{
+    match words.get(index) {
+        Some(&word) if kind(word) == wanted => Ok(number(word)),
+        _ => Err(BadWord { index }),
     }
 }
 
@@ -165,80 +168,41 @@ fn size_of_call(call: &Call<Plan>) -> usize
     ensures { result ≡ call_size call.now }
 {
     match *call {
-        Call::Write { name: _, value: _ } => 4,
-        Call::Bring {
-            kind: _,
-            sender: _,
-            receiver: _,
-        } => 2,
-        Call::Swap { name: _ } | Call::Read { name: _ } | Call::Look { name: _ } | Call::Tick => 1,
+        Call::Write { .. } => 4,
+        Call::Bring { .. } => 2,
+        Call::Swap { .. } | Call::Read { .. } | Call::Look { .. } | Call::Tick => 1,
     }
 }
 
-// What comes at the index: a call, a bad word or the end.
-fn call_at_or_end(words: &[u32], short: bool, at: usize) -> Result<Option<Call<Plan>>, BadWord>
-    ensures { result ≡ next_call words.now short at }
-{
-    if at < words.len() {
-        match read_call(words, at) {
-            Ok(call) => Ok(Some(call)),
-            Err(bad) => Err(bad),
-        }
-    } else if short {
-        Err(BadWord { index: words.len() })
-    } else {
-        Ok(None)
-    }
-}
-
-// What the first six words make.
-fn read_opening(words: &[u32]) -> Result<Opening, BadWord>
-    ensures { result ≡ opening_of words.now }
-{
-    let start = read_plan(words, 3);
-    let heads = number_of_word(words, 0);
-    let delay = number_of_word(words, 1);
-    let swap_limit = number_of_word(words, 2);
-    match bad_from(words, 0, 0, 3) {
-        Some(index) => Err(BadWord { index }),
-        None => {
-            match bad_from(words, 4, 3, 3) {
-                Some(index) => Err(BadWord { index }),
-                None => Ok(Opening {
-                    heads,
-                    delay,
-                    swap_limit,
-                    start,
-                }),
-            }
-        }
-    }
-}
-
+// The private functions, by the words of the tests in scripttests, which go through `open` and `next`.
 #[cfg(test)]
 mod tests {
     use super::*;
 
     const SITE: [u32; 6] = [4, 1, 1, 0x4000_005a, 0x4000_000a, 0x4000_0028];
 
-    // The index of the first bad word of the six, or none.
-    fn bad_opening(words: &[u32]) -> Option<usize> {
-        match Script::open(words, false) {
-            Ok(_) => None,
-            Err(bad) => Some(bad.index),
-        }
+    // What comes at the index.
+    fn call_at_or_end(words: &[u32], short: bool, at: usize) -> Result<Option<Call<Plan>>, BadWord>
+        requires { at < 2 ^ 63 }
+    {
+        Script { words, short, at }.call_or_end()
+    }
+
+    // Whether the six words make a site, or the first bad word.
+    fn opened(words: &[u32]) -> Result<(), BadWord> {
+        Script::open(words, false).map(|_| ())
     }
 
     #[test]
     fn the_first_six_words(rt: HostRuntime) {
         for length in 0..6 {
-            assert_eq!(rt; bad_opening(&SITE[0..length]), Some(length));
+            assert_eq!(rt; opened(&SITE[0..length]), Err(BadWord { index: length }));
         }
-        assert_eq!(rt; bad_opening(&SITE), None);
+        assert_eq!(rt; opened(&SITE), Ok(()));
         for i in 0..6 {
             let mut words = SITE;
             words[i] = 0x5000_0000;
-            assert_eq!(rt; bad_opening(&words), Some(i));
+            assert_eq!(rt; opened(&words), Err(BadWord { index: i }));
         }
         let start = Plan {
             cycle: 90,
@@ -305,7 +269,12 @@ mod tests {
             ([0x8000_0001, 0, 0, 0], Err(BadWord { index: 0 })),
         ];
         for (words, expected) in table {
-            assert_eq!(rt; read_call(&words, 0), expected);
+            let script = Script {
+                words: &words,
+                short: false,
+                at: 0,
+            };
+            assert_eq!(rt; script.read_call(words[0]), expected);
         }
     }
 

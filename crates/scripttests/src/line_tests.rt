@@ -87,11 +87,10 @@ fn calls_with_their_answers(rt: HostRuntime) -> Result<(), Fail> {
 
 #[test]
 fn other_lines(rt: HostRuntime) -> Result<(), Fail> {
-    assert_eq!(rt; make_line(rt.alloc(), None)?.as_str(), "make = ok");
-    assert_eq!(rt;
-        make_line(rt.alloc(), Some(Refusal::ChurnLimit))?.as_str(),
-        "make ! 3"
-    );
+    let made: Result<(), Refusal> = Ok(());
+    assert_eq!(rt; make_line(rt.alloc(), &made)?.as_str(), "make = ok");
+    let refused: Result<(), Refusal> = Err(Refusal::ChurnLimit);
+    assert_eq!(rt; make_line(rt.alloc(), &refused)?.as_str(), "make ! 3");
     assert_eq!(rt;
         bad_word_line(rt.alloc(), 16_384)?.as_str(),
         "bad word 16384"

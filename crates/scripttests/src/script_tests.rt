@@ -7,31 +7,28 @@ use std::test::Fail;
 
 const SITE: [u32; 6] = [4, 1, 1, 0x4000_005a, 0x4000_000a, 0x4000_0028];
 
-// The index of the first bad word of the six, or none.
-fn bad_opening(words: &[u32]) -> Option<usize> {
-    match Script::open(words, false) {
-        Ok(_) => None,
-        Err(bad) => Some(bad.index),
-    }
+// Whether the six words make a site, or the first bad word.
+fn opened(words: &[u32]) -> Result<(), BadWord> {
+    Script::open(words, false).map(|_| ())
 }
 
 #[test]
 fn the_first_six_words(rt: HostRuntime) -> Result<(), Fail> {
     for length in 0..6 {
-        assert_eq!(rt; bad_opening(&SITE[0..length]), Some(length));
+        assert_eq!(rt; opened(&SITE[0..length]), Err(BadWord { index: length }));
     }
-    assert_eq!(rt; bad_opening(&SITE), None);
+    assert_eq!(rt; opened(&SITE), Ok(()));
     for i in 0..6 {
         let mut words = SITE;
         words[i] = 0x5000_0000;
-        assert_eq!(rt; bad_opening(&words), Some(i));
+        assert_eq!(rt; opened(&words), Err(BadWord { index: i }));
     }
     let start = Plan {
         cycle: 90,
         offset: 10,
         green: 40,
     };
-    let (opening, _) = Script::open(&SITE, false).ok().ok_or("a site")?;
+    let (opening, _) = Script::open(&SITE, false)?;
     assert_eq!(rt;
         opening,
         Opening {

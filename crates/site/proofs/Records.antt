@@ -1,13 +1,17 @@
--- What the site's own record tells of a write.
-use Rattle.std.proofs.Common.{◌≡◌, ℕ, ◌≤◌, Bool, List, length, is_some, Some, None, Option, Result, refl, ◌∙◌, subst, arith}
+-- What the site's own record tells of a write, and what a search tells.
+use Rattle.std.proofs.Common.{◌≡◌, ℕ, ◌≤◌, Bool, false, List, length, is_some, Some, None, Ok, Err, Option, Result, refl, ap, ◌∙◌, subst, arith}
+use Rattle.std.specs.Option.{ok_or}
 use Rattle.protocol.specs.declared.refusal.Refusal.{Refusal}
+use Rattle.protocol.specs.declared.refusal.Refusal.TheVariants.{ForeignTables}
+use Rattle.protocol.specs.Sites.{foreign}
 use Rattle.tables.specs.declared.head.Head.{Head}
 use Rattle.tables.specs.declared.mail.MailPlace.{MailPlace}
+use Rattle.acts.specs.Lent.{lent}
 use Rattle.acts.specs.Writing.{Writes}
-use Rattle.acts.proofs.Checks.{own_size}
+use Rattle.acts.proofs.Checks.{own_size, foreign_by, not_refused}
 use Rattle.site.specs.declared.site.UnderWay.{UnderWay}
 use Rattle.site.specs.declared.site.Site.{Site}
-use Rattle.site.specs.Checks.{no_log, head_refusal}
+use Rattle.site.specs.Checks.{no_log, tables_refusal, head_refusal}
 use Rattle.site.specs.States.{under_way_of, site_of}
 
 busy_told : (o : Option UnderWay) → is_some o ≡ is_some (under_way_of o)
@@ -22,3 +26,18 @@ module _ {V : Type 0} (s : Site) where
   -- whether a write is under way, as the protocol tells it
   pub writes_told : (lawful : V → Bool) (b : Bool) (h : Head V) (v : V) (r : Result (Head V) Refusal) → b ≡ is_some s.under_way → Writes lawful b h v r → Writes lawful (is_some (site_of s).under_way) h v r
   writes_told lawful b h v r e w = subst (λ c. Writes lawful c h v r) (e ∙ busy_told s.under_way) w
+
+-- what the check of the tables tells
+module _ {V : Type 0} (s : Site) (hs : List (Head V)) (ms : List (MailPlace V)) where
+  pub own_tables : tables_refusal s (length hs) (length ms) ≡ None → foreign (lent (site_of s) hs ms no_log) ≡ false
+  own_tables e = foreign_by (site_of s) hs ms no_log (not_refused _ ForeignTables None e)
+
+-- what a search has found, or why it has found nothing
+module _ {X : Type 0} {r : Result X Refusal} where
+  pub ok_found : {x : X} (o : Option X) (e : Refusal) → r ≡ Ok x → r ≡ ok_or o e → o ≡ Some x
+  ok_found None e p q = let z : ◌≡◌ {A = ℕ} 0 1 = cc in absurd (omega arith)
+  ok_found {x} (Some y) e p q = let z : y ≡ x = cc in ap Some z
+
+  pub ok_missing : {why : Refusal} (o : Option X) (e : Refusal) → r ≡ Err why → r ≡ ok_or o e → (o ≡ None) × (why ≡ e)
+  ok_missing None e p q = (refl, cc)
+  ok_missing (Some y) e p q = let z : ◌≡◌ {A = ℕ} 0 1 = cc in absurd (omega arith)

@@ -1,8 +1,9 @@
 -- What a call finds out before it alters anything. Its first checks do not ask the log.
-use Rattle.std.specs.Prelude.{◌≡◌, ℕ, ◌≤◌, List, [], length, take, Some, None, Ok, Err, Option, Result, slice_index_or}
+use Rattle.std.specs.Prelude.{◌≡◌, ℕ, ◌≤◌, List, [], ◌∷◌, length, take, Some, None, Ok, Err, Option, Result, slice_index_or}
 use Rattle.logs.specs.Meanings.{Meaning}
 use Rattle.protocol.specs.declared.kind.MailKind.{MailKind}
 use Rattle.protocol.specs.declared.refusal.Refusal.{Refusal}
+use Rattle.protocol.specs.declared.refusal.Refusal.TheVariants.{ForeignTables}
 use Rattle.protocol.specs.Bring.{bring_checks}
 use Rattle.protocol.specs.Heads.{is_named}
 use Rattle.protocol.specs.Look.{look_refusal}
@@ -14,12 +15,17 @@ use Rattle.tables.specs.declared.mail.MailPlace.{MailPlace}
 use Rattle.tables.specs.FirstPlaces.{place_of}
 use Rattle.tables.specs.HeadPlaces.{head_of}
 use Rattle.acts.specs.Delivering.{Delivery}
+use Rattle.acts.specs.Lent.{foreign_lent}
 use Rattle.acts.specs.Swapping.{limit_checks}
 use Rattle.site.specs.declared.site.Site.{Site}
 use Rattle.site.specs.States.{site_of, state_of}
 
 abbrev pub no_log : {V : Type 0} → Meaning V
 no_log = record { entries = []; free = 0 }
+
+-- tables of so many places are not those of the site
+abbrev pub tables_refusal : Site → ℕ → ℕ → Option Refusal
+tables_refusal s heads mail = refused_by ((foreign_lent s.size heads mail, ForeignTables) ∷ []) None
 
 -- 6 and 11
 abbrev pub head_refusal : {V : Type 0} → Site → List (Head V) → List (MailPlace V) → ℕ → Option Refusal

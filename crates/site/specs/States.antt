@@ -54,3 +54,8 @@ ticked_answer (Err why) = Refused why
 abbrev pub seen_answer : {V : Type 0} → Result (HeadState × ℤ) Refusal → Answer V
 seen_answer (Ok (q, z)) = Seen q z
 seen_answer (Err why) = Refused why
+
+-- an answer, or why there is none
+abbrev pub answered : {V : Type 0} → Result (Answer V) Refusal → Answer V
+answered (Ok a) = a
+answered (Err why) = Refused why

@@ -11,14 +11,14 @@ pub mod tick;
 pub mod write;
 
 // A write under way: who writes, and the tick at which it began.
-#[derive(Clone, Copy)]
+#[derive(Clone, Copy, PartialEq, Eq, Debug)]
 pub struct UnderWay {
     pub writer: u32,
     pub begin: u32,
 }
 
 // Its size, the delay limit and the swaps allowed in a tick are fixed when it is made.
-#[derive(Clone, Copy)]
+#[derive(Clone, Copy, PartialEq, Eq, Debug)]
 pub struct Site {
     pub size: usize,
     pub delay: u32,

@@ -4,8 +4,10 @@
 use card::{bytes_of, fill_words, left_over};
 use plans::Plan;
 use protocol::state::HeadState;
+use records::copied::Copied;
+use records::names::Names;
 use register::{make, perform};
-use script::{Opening, Script};
+use script::{BadWord, Opening, Script};
 use site::site::Site;
 use sitelines::{bad_word_line, call_line, make_line};
 use std::io::Read;
@@ -21,10 +23,13 @@ const HEAD_PLACES: usize = 65;
 const MAIL_PLACES: usize = 4096;
 
 // No place means anything before the site is made.
-const NO_PLAN: Plan = Plan {
-    cycle: 0,
-    offset: 0,
-    green: 0,
+const NO_COPY: Copied<Plan> = Copied {
+    stamp: -1,
+    value: Plan {
+        cycle: 0,
+        offset: 0,
+        green: 0,
+    },
 };
 
 fn main(rt: HostRuntime) -> anyhow::Result<()> {
@@ -35,9 +40,10 @@ fn main(rt: HostRuntime) -> anyhow::Result<()> {
 fn run(rt: &HostRuntime) -> anyhow::Result<()> {
     let mut bytes = Vec::new(rt.alloc());
     rt.stdin().take(65_536).read_to_end(&mut bytes)?;
+    // the program's own arrays, by a rule of this project
     let mut words = [0u32; 16_384];
-    let count = fill_words(bytes.as_slice(), &mut words);
-    let short = left_over(bytes.as_slice()) > 0;
+    let count = fill_words(&bytes, &mut words);
+    let short = left_over(&bytes) > 0;
     let mut log_words = [0u32; 4096];
     let mut log = WordLog::open(&mut log_words);
     run_script(rt, &words[..count], short, &mut log)?;
@@ -55,104 +61,89 @@ fn run_script(
     log: &mut WordLog<Plan>,
 ) -> anyhow::Result<()> {
     match Script::open(words, short) {
-        Ok((opening, calls)) => run_site(rt, &opening, calls, log),
-        Err(bad) => {
-            rt.println(bad_word_line(rt.alloc(), bad.index)?)?;
-            Ok(())
-        }
+        Ok((opening, calls)) => run_site(rt, opening, calls, log),
+        Err(bad) => tell_bad_word(rt, bad),
     }
 }
 
-// Lends the site its head places.
+// Makes a site over places of its own, as many as its heads need, and runs its calls.
 fn run_site(
     rt: &HostRuntime,
-    opening: &Opening,
+    opening: Opening,
     calls: Script,
     log: &mut WordLog<Plan>,
 ) -> anyhow::Result<()> {
-    let mut heads = [Head {
+    // the cast loses nothing, which is proved
+    let size = HEAD_PLACES.min(opening.heads as usize);
+    let head = Head {
         name: 0,
         state: HeadState::Listening,
-        stamp: -1,
-        value: NO_PLAN,
+        copy: NO_COPY,
         swap_tick: 0,
         inquiry_tick: 0,
-        best_stamp: -1,
-        best_value: NO_PLAN,
-        held: [0; 64],
-        held_count: 0,
-    }; HEAD_PLACES];
-    let n = HEAD_PLACES.min(opening.heads as usize);
-    run_heads(rt, opening, calls, &mut heads[..n], log)
-}
-
-// Lends the site its mail places, as many as its heads need.
-fn run_heads(
-    rt: &HostRuntime,
-    opening: &Opening,
-    calls: Script,
-    heads: &mut [Head<Plan>],
-    log: &mut WordLog<Plan>,
-) -> anyhow::Result<()> {
-    let mut mail = [MailPlace {
+        best: NO_COPY,
+        held: Names::new(),
+    };
+    let place = MailPlace {
         kind: None,
         sender: 0,
         receiver: 0,
         sent: 0,
-        stamp: -1,
-        value: NO_PLAN,
-    }; MAIL_PLACES];
-    let places = MAIL_PLACES.min(heads.len().saturating_mul(heads.len()));
-    make_and_run(rt, opening, calls, heads, &mut mail[..places], log)
+        copy: NO_COPY,
+    };
+    let mut heads = vec![in rt.alloc(); head; size]?;
+    let mut mail = vec![in rt.alloc(); place; MAIL_PLACES.min(size * size)]?;
+    let made = make(
+        &mut heads,
+        &mut mail,
+        log,
+        opening.delay,
+        opening.swap_limit,
+        opening.start,
+    );
+    rt.println(make_line(rt.alloc(), &made)?)?;
+    let Ok(site) = made else {
+        return Ok(());
+    };
+    let mut shift = Shift {
+        site,
+        heads,
+        mail,
+        log,
+    };
+    shift.run(rt, calls)
 }
 
-fn make_and_run(
-    rt: &HostRuntime,
-    opening: &Opening,
-    calls: Script,
-    heads: &mut [Head<Plan>],
-    mail: &mut [MailPlace<Plan>],
-    log: &mut WordLog<Plan>,
-) -> anyhow::Result<()> {
-    let Opening {
-        heads: _,
-        delay,
-        swap_limit,
-        start,
-    } = *opening;
-    match make(heads, mail, log, delay, swap_limit, start) {
-        Err(why) => {
-            rt.println(make_line(rt.alloc(), Some(why))?)?;
-            Ok(())
+// A site with its tables and its log.
+#[derive(Drop)]
+struct Shift<'a, 'b> {
+    site: Site,
+    heads: Vec<Head<Plan>>,
+    mail: Vec<MailPlace<Plan>>,
+    log: &'a mut WordLog<'b, Plan>,
+}
+
+impl Shift<'_, '_> {
+    // Performs the calls up to the end or the first bad word, which the script then tells again.
+    fn run(&mut self, rt: &HostRuntime, mut calls: Script) -> anyhow::Result<()> {
+        while let Ok(Some(call)) = calls.next() {
+            let answer = perform(
+                &mut self.site,
+                &mut self.heads,
+                &mut self.mail,
+                self.log,
+                &call,
+            );
+            rt.println(call_line(rt.alloc(), &call, &answer)?)?;
         }
-        Ok(mut site) => {
-            rt.println(make_line(rt.alloc(), None)?)?;
-            run_calls(rt, &mut site, heads, mail, log, calls)
+        if let Err(bad) = calls.next() {
+            tell_bad_word(rt, bad)?;
         }
+        Ok(())
     }
 }
 
-// A call takes a word or more, so there are no more calls than words.
-fn run_calls(
-    rt: &HostRuntime,
-    site: &mut Site,
-    heads: &mut [Head<Plan>],
-    mail: &mut [MailPlace<Plan>],
-    log: &mut WordLog<Plan>,
-    mut calls: Script,
-) -> anyhow::Result<()> {
-    for _ in 0..16_384 {
-        match calls.next() {
-            Ok(Some(call)) => {
-                let answer = perform(site, heads, mail, log, &call);
-                rt.println(call_line(rt.alloc(), &call, &answer)?)?;
-            }
-            Ok(None) => break,
-            Err(bad) => {
-                rt.println(bad_word_line(rt.alloc(), bad.index)?)?;
-                break;
-            }
-        }
-    }
+fn tell_bad_word(rt: &HostRuntime, bad: BadWord) -> anyhow::Result<()> {
+    rt.println(bad_word_line(rt.alloc(), bad.index)?)?;
     Ok(())
 }

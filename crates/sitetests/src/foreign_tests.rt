@@ -1,15 +1,13 @@
 // Tables that no run leads to, and what a swap takes out of them.
-use crate::worlds::{
-    NEXT, START, blank_place, bring, count_all, count_of, head, item, new_heads, new_site, play,
-};
+use crate::worlds::{NEXT, START, World, blank_place, bring, head, item, new_heads, new_site};
 use closedlog::ClosedLog;
-use logs::log::Log;
 use plans::Plan;
 use protocol::answer::Answer;
 use protocol::call::Call;
 use protocol::kind::MailKind;
 use protocol::refusal::Refusal;
 use protocol::state::HeadState;
+use records::names::Names;
 use std::test::Fail;
 use wordlog::log::WordLog;
 
@@ -23,7 +21,7 @@ fn seen(stamp: i64) -> Answer<Plan> {
 // Two heads have the name 2: the first counts, and the other gets its mail as every other head does.
 #[test]
 fn the_first_head_with_a_name_counts(rt: HostRuntime) -> Result<(), Fail> {
-    let mut heads = [
+    let heads = [
         head(1, HeadState::Active, 0),
         head(2, HeadState::Active, 5),
         head(2, HeadState::Active, 9),
@@ -66,13 +64,16 @@ fn the_first_head_with_a_name_counts(rt: HostRuntime) -> Result<(), Fail> {
             Answer::Written { stamp: 268_435_455 },
         ),
     ];
-    let mut mail = [blank_place(START); 16];
+    let mut world = World {
+        site: new_site()?,
+        heads,
+        mail: [blank_place(START); 16],
+    };
     let mut words = [0u32; 6];
     let mut log = WordLog::<Plan>::open(&mut words);
-    let mut site = new_site()?;
-    play(&rt, &mut site, &mut heads, &mut mail, &mut log, &table);
-    assert_eq!(rt; count_of(&mail, MailKind::Write, 4, 5), 1);
-    assert_eq!(rt; count_all(&mail), 3);
+    world.play(&rt, &mut log, &table);
+    assert_eq!(rt; world.count_of(MailKind::Write, 4, 5), 1);
+    assert_eq!(rt; world.count_all(), 3);
     Ok(())
 }
 
@@ -94,16 +95,12 @@ fn the_first_item_counts(rt: HostRuntime) -> Result<(), Fail> {
             Answer::Refused(Refusal::NoSuchItem),
         ),
     ];
-    let mut heads = new_heads();
-    let mut site = new_site()?;
-    play(
-        &rt,
-        &mut site,
-        &mut heads,
-        &mut mail,
-        &mut ClosedLog,
-        &table,
-    );
+    let mut world = World {
+        site: new_site()?,
+        heads: new_heads(),
+        mail,
+    };
+    world.play(&rt, &mut ClosedLog, &table);
     Ok(())
 }
 
@@ -112,7 +109,7 @@ fn the_first_item_counts(rt: HostRuntime) -> Result<(), Fail> {
 fn a_full_mail(rt: HostRuntime) -> Result<(), Fail> {
     let mut heads = new_heads();
     heads[1] = head(2, HeadState::Active, -1);
-    let mut mail = [item(MailKind::Inquiry, 3, 1, 7, -1); 16];
+    let mail = [item(MailKind::Inquiry, 3, 1, 7, -1); 16];
     let table = [
         (bring(MailKind::Inquiry, 3, 1), Answer::Brought),
         (bring(MailKind::Inquiry, 3, 1), Answer::Brought),
@@ -137,17 +134,14 @@ fn a_full_mail(rt: HostRuntime) -> Result<(), Fail> {
         ),
         (Call::Look { name: 2 }, seen(0)),
     ];
-    let mut site = new_site()?;
-    play(
-        &rt,
-        &mut site,
-        &mut heads,
-        &mut mail,
-        &mut ClosedLog,
-        &table,
-    );
-    assert_eq!(rt; count_of(&mail, MailKind::Write, 2, 4), 1);
-    assert_eq!(rt; count_all(&mail), 16);
+    let mut world = World {
+        site: new_site()?,
+        heads,
+        mail,
+    };
+    world.play(&rt, &mut ClosedLog, &table);
+    assert_eq!(rt; world.count_of(MailKind::Write, 2, 4), 1);
+    assert_eq!(rt; world.count_all(), 16);
     Ok(())
 }
 
@@ -155,11 +149,15 @@ fn a_full_mail(rt: HostRuntime) -> Result<(), Fail> {
 #[test]
 fn held_names(rt: HostRuntime) -> Result<(), Fail> {
     let mut crowded = head(2, HeadState::Listening, 0);
-    crowded.held = [9; 64];
-    crowded.held_count = 1000;
+    crowded.held = Names {
+        list: [9; 64],
+        count: 1000,
+    };
     let mut roomy = head(3, HeadState::Stranded, 0);
-    roomy.held = [9; 64];
-    roomy.held_count = 63;
+    roomy.held = Names {
+        list: [9; 64],
+        count: 63,
+    };
     let mut heads = new_heads();
     heads[1] = crowded;
     heads[2] = roomy;
@@ -177,17 +175,17 @@ fn held_names(rt: HostRuntime) -> Result<(), Fail> {
         (bring(MailKind::Inquiry, 8, 3), Answer::Brought),
         (bring(MailKind::Inquiry, 7, 3), no_room),
     ];
-    let mut site = new_site()?;
-    play(
-        &rt,
-        &mut site,
-        &mut heads,
-        &mut mail,
-        &mut ClosedLog,
-        &table,
+    let mut world = World {
+        site: new_site()?,
+        heads,
+        mail,
+    };
+    world.play(&rt, &mut ClosedLog, &table);
+    assert_eq!(rt;
+        (world.heads[2].held.count, world.heads[2].held.list[63]),
+        (64, 8)
     );
-    assert_eq!(rt; (heads[2].held_count, heads[2].held[63]), (64, 8));
-    assert_eq!(rt; count_all(&mail), 2);
+    assert_eq!(rt; world.count_all(), 2);
     Ok(())
 }
 
@@ -195,9 +193,11 @@ fn held_names(rt: HostRuntime) -> Result<(), Fail> {
 #[test]
 fn what_a_swap_takes_out(rt: HostRuntime) -> Result<(), Fail> {
     let mut keeper = head(1, HeadState::Listening, 0);
-    keeper.held = [2; 64];
-    keeper.held[1] = 3;
-    keeper.held_count = 2;
+    keeper.held = Names {
+        list: [2; 64],
+        count: 2,
+    };
+    keeper.held.list[1] = 3;
     let mut heads = new_heads();
     heads[0] = keeper;
     let mut mail = [blank_place(START); 16];
@@ -221,20 +221,20 @@ fn what_a_swap_takes_out(rt: HostRuntime) -> Result<(), Fail> {
     ];
     let mut site = new_site()?;
     site.time = 6;
-    play(
-        &rt,
-        &mut site,
-        &mut heads,
-        &mut mail,
-        &mut ClosedLog,
-        &table,
+    let mut world = World { site, heads, mail };
+    world.play(&rt, &mut ClosedLog, &table);
+    assert_eq!(rt; (world.heads[1].name, world.heads[1].swap_tick), (5, 6));
+    assert_eq!(rt;
+        (world.heads[1].best.stamp, world.heads[1].held.count),
+        (-1, 0)
     );
-    assert_eq!(rt; (heads[1].name, heads[1].swap_tick), (5, 6));
-    assert_eq!(rt; (heads[1].best_stamp, heads[1].held_count), (-1, 0));
-    assert_eq!(rt; (heads[0].held_count, heads[0].held[0]), (1, 3));
-    assert_eq!(rt; count_of(&mail, MailKind::Write, 2, 3), 1);
-    assert_eq!(rt; count_of(&mail, MailKind::Reply, 2, 4), 1);
-    assert_eq!(rt; count_of(&mail, MailKind::Write, 1, 3), 1);
-    assert_eq!(rt; count_all(&mail), 3);
+    assert_eq!(rt;
+        (world.heads[0].held.count, world.heads[0].held.list[0]),
+        (1, 3)
+    );
+    assert_eq!(rt; world.count_of(MailKind::Write, 2, 3), 1);
+    assert_eq!(rt; world.count_of(MailKind::Reply, 2, 4), 1);
+    assert_eq!(rt; world.count_of(MailKind::Write, 1, 3), 1);
+    assert_eq!(rt; world.count_all(), 3);
     Ok(())
 }

@@ -1,125 +1,103 @@
 // Make: its refusals in their order, its edges, and the new site.
-use crate::worlds::{LAWLESS, START, blank_head, item, same_head, same_place};
+use crate::worlds::{LAWLESS, START, blank_head, item};
 use plans::Plan;
 use protocol::kind::MailKind;
 use protocol::state::HeadState;
 use site::site::Site;
+use std::process::Abort;
 use tables::head::Head;
 use tables::mail::MailPlace;
 
-// Whether heads and mail are those of a new site.
-fn is_new(heads: &[Head<Plan>], mail: &[MailPlace<Plan>]) -> bool {
-    let mut name = 0u32;
-    for h in heads {
-        name = name.saturating_add(1);
-        let copied = h.stamp == 0 && h.value == START;
-        if h.name != name || h.state != HeadState::Active || !copied {
-            return false;
-        }
-        if h.best_stamp != -1 || h.held_count != 0 {
-            return false;
-        }
-    }
-    for p in mail {
-        if p.kind.is_some() {
-            return false;
-        }
-    }
-    true
+// Whether this is the head with the name in a new site.
+fn is_new(h: &Head<Plan>, name: u32) -> bool {
+    h.name == name
+        && h.state == HeadState::Active
+        && h.copy.stamp == 0
+        && h.copy.value == START
+        && h.best.stamp == -1
+        && h.held.count == 0
 }
 
-// The number of the refusal, or 0 and the next name; and whether the places are those of a new site then, and as they were otherwise.
+// The next name of the site that is made, or the number of the refusal. The places are those of a new site then, and as they were otherwise.
 fn make_over(
+    rt: &impl Abort,
     heads: &mut [Head<Plan>],
     mail: &mut [MailPlace<Plan>],
     delay: u32,
     swap_limit: u32,
     start: Plan,
-    dirty: (Head<Plan>, MailPlace<Plan>),
-) -> (u32, u32, bool) {
+) -> Result<u32, u32> {
     match Site::make(heads, mail, delay, swap_limit, start) {
         Ok(s) => {
-            let fresh = s.time == 0 && s.swaps == 0 && s.under_way.is_none();
-            let numbers = s.size == heads.len() && s.delay == delay && s.swap_limit == swap_limit;
-            (0, s.next_name, fresh && numbers && is_new(heads, mail))
+            assert_eq!(rt;
+                (s.size, s.delay, s.swap_limit),
+                (heads.len(), delay, swap_limit)
+            );
+            assert_eq!(rt; (s.time, s.swaps, s.under_way), (0, 0, None));
+            assert!(rt; heads.iter().zip(1..).all(|(h, name)| is_new(h, name)));
+            assert!(rt; mail.iter().all(|p| p.kind.is_none()));
+            Ok(s.next_name)
         }
-        Err(why) => (why.number(), 0, are_dirty(heads, mail, dirty)),
-    }
-}
-
-fn are_dirty(
-    heads: &[Head<Plan>],
-    mail: &[MailPlace<Plan>],
-    dirty: (Head<Plan>, MailPlace<Plan>),
-) -> bool {
-    for h in heads {
-        if !same_head(h, &dirty.0) {
-            return false;
+        Err(why) => {
+            assert!(rt; heads.iter().all(|h| *h == blank_head(LAWLESS)));
+            assert!(rt; mail.iter().all(|p| *p == item(MailKind::Reply, 1, 2, 0, 3)));
+            Err(u32::from(why))
         }
     }
-    for p in mail {
-        if !same_place(p, &dirty.1) {
-            return false;
-        }
-    }
-    true
 }
 
 // Makes a site over the first of so many dirty places.
 fn make_on(
+    rt: &impl Abort,
     heads: usize,
     mail: usize,
     delay: u32,
     swap_limit: u32,
     start: Plan,
-) -> (u32, u32, bool) {
+) -> Result<u32, u32> {
     let n = heads.min(65);
     let m = mail.min(4096);
-    let dirty = (blank_head(LAWLESS), item(MailKind::Reply, 1, 2, 0, 3));
-    let mut lent = [dirty.0; 65];
-    let mut places = [dirty.1; 4096];
+    let mut lent = [blank_head(LAWLESS); 65];
+    let mut places = [item(MailKind::Reply, 1, 2, 0, 3); 4096];
     make_over(
+        rt,
         &mut lent[0..n],
         &mut places[0..m],
         delay,
         swap_limit,
         start,
-        dirty,
     )
 }
 
 #[test]
 fn sites_that_are_made_or_refused(rt: HostRuntime) {
     let table = [
-        (0, 4096, 1, 0, START, 1, 0),
-        (65, 4096, 1, 0, START, 1, 0),
-        (64, 4096, 0, 1, START, 2, 0),
-        (64, 4096, 17, 1, START, 2, 0),
-        (1, 1, 17, 0, START, 2, 0),
-        (3, 9, 1, 1, START, 3, 0),
-        (48, 4096, 16, 1, START, 3, 0),
-        (64, 4096, 16, 89_478_486, START, 3, 0),
-        (64, 4096, 16, 4_294_967_295, START, 3, 0),
-        (4, 15, 1, 1, START, 4, 0),
-        (64, 4095, 16, 1, START, 4, 0),
-        (4, 16, 1, 1, LAWLESS, 5, 0),
-        (0, 0, 0, 9, LAWLESS, 1, 0),
-        (65, 0, 17, 99, LAWLESS, 1, 0),
-        (4, 15, 0, 9, LAWLESS, 2, 0),
-        (4, 15, 17, 9, LAWLESS, 2, 0),
-        (4, 15, 1, 2, LAWLESS, 3, 0),
-        (4, 15, 1, 1, LAWLESS, 4, 0),
-        (1, 1, 1, 0, START, 0, 2),
-        (4, 16, 1, 1, START, 0, 5),
-        (4, 17, 1, 1, START, 0, 5),
-        (49, 2401, 16, 1, START, 0, 50),
-        (64, 4096, 16, 1, START, 0, 65),
-        (64, 4096, 1, 21, START, 0, 65),
+        (0, 4096, 1, 0, START, Err(1)),
+        (65, 4096, 1, 0, START, Err(1)),
+        (64, 4096, 0, 1, START, Err(2)),
+        (64, 4096, 17, 1, START, Err(2)),
+        (1, 1, 17, 0, START, Err(2)),
+        (3, 9, 1, 1, START, Err(3)),
+        (48, 4096, 16, 1, START, Err(3)),
+        (64, 4096, 16, 89_478_486, START, Err(3)),
+        (64, 4096, 16, 4_294_967_295, START, Err(3)),
+        (4, 15, 1, 1, START, Err(4)),
+        (64, 4095, 16, 1, START, Err(4)),
+        (4, 16, 1, 1, LAWLESS, Err(5)),
+        (0, 0, 0, 9, LAWLESS, Err(1)),
+        (65, 0, 17, 99, LAWLESS, Err(1)),
+        (4, 15, 0, 9, LAWLESS, Err(2)),
+        (4, 15, 17, 9, LAWLESS, Err(2)),
+        (4, 15, 1, 2, LAWLESS, Err(3)),
+        (4, 15, 1, 1, LAWLESS, Err(4)),
+        (1, 1, 1, 0, START, Ok(2)),
+        (4, 16, 1, 1, START, Ok(5)),
+        (4, 17, 1, 1, START, Ok(5)),
+        (49, 2401, 16, 1, START, Ok(50)),
+        (64, 4096, 16, 1, START, Ok(65)),
+        (64, 4096, 1, 21, START, Ok(65)),
     ];
-    for (n, m, delay, swap_limit, start, number, next_name) in table {
-        assert_eq!(rt;
-            make_on(n, m, delay, swap_limit, start),
-            (number, next_name, true)
-        );
+    for (n, m, delay, swap_limit, start, expected) in table {
+        assert_eq!(rt; make_on(&rt, n, m, delay, swap_limit, start), expected);
     }
 }

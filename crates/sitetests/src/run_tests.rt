@@ -1,6 +1,6 @@
 // Whole runs: the sample over a word log, a mode site over a record log, and a log that takes nothing.
 use crate::worlds::{
-    NEXT, START, blank_head, blank_place, bring, new_heads, new_site, play, refused,
+    NEXT, START, World, blank_head, blank_place, bring, new_heads, new_site, play,
 };
 use closedlog::ClosedLog;
 use logs::entry::{Entry, LogRefusal};
@@ -14,7 +14,6 @@ use protocol::refusal::Refusal;
 use protocol::state::HeadState;
 use recordlog::RecordLog;
 use register::make;
-use std::process::Abort;
 use std::test::Fail;
 use wordlog::log::WordLog;
 
@@ -67,33 +66,22 @@ fn the_sample_run(rt: HostRuntime) -> Result<(), Fail> {
     let mut log = WordLog::<Plan>::open(&mut words);
     let mut site = make(&mut heads, &mut mail, &log, 1, 1, START)?;
     play(&rt, &mut site, &mut heads, &mut mail, &mut log, &table);
-    same_words(
-        &rt,
-        log.filled_words(),
-        &[
-            0x1000_0000,
-            0x2000_0003,
-            0x3000_0000,
-            0x4000_005a,
-            0x4000_000a,
-            0x4000_0028,
-            0x1000_0003,
-            0x2000_0005,
-            0x3000_0001,
-            0x4000_0064,
-            0x4000_0014,
-            0x4000_0032,
-        ],
-    );
+    let expected = [
+        0x1000_0000,
+        0x2000_0003,
+        0x3000_0000,
+        0x4000_005a,
+        0x4000_000a,
+        0x4000_0028,
+        0x1000_0003,
+        0x2000_0005,
+        0x3000_0001,
+        0x4000_0064,
+        0x4000_0014,
+        0x4000_0032,
+    ];
+    assert_eq!(rt; log.filled_words(), &expected[..]);
     Ok(())
-}
-
-fn same_words(rt: &impl Abort, words: &[u32], expected: &[u32]) {
-    assert_eq!(rt; words.len(), expected.len());
-    for (i, w) in words.iter().enumerate() {
-        assert!(rt; i < expected.len());
-        assert_eq!(rt; *w, expected[i]);
-    }
 }
 
 // The log has an entry already, and takes one more.
@@ -156,13 +144,11 @@ fn a_closed_log_takes_no_read(rt: HostRuntime) -> Result<(), Fail> {
         (Call::Read { name: 3 }, 32),
         (Call::Read { name: 4 }, 32),
     ];
-    refused(
-        &rt,
-        new_site()?,
-        new_heads(),
-        [blank_place(START); 16],
-        &mut ClosedLog,
-        &table,
-    );
+    let world = World {
+        site: new_site()?,
+        heads: new_heads(),
+        mail: [blank_place(START); 16],
+    };
+    world.refused(&rt, &mut ClosedLog, &table);
     Ok(())
 }

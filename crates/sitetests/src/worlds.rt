@@ -1,14 +1,15 @@
-// A site of four heads with its tables, and what a call does to them.
+// A site with its tables, and what a call does to them.
 use kinds::value::Value;
 use logs::log::Log;
 use plans::Plan;
 use protocol::answer::Answer;
 use protocol::call::Call;
 use protocol::kind::MailKind;
-use protocol::refusal::Refusal;
 use protocol::state::HeadState;
+use records::copied::Copied;
+use records::names::Names;
 use register::perform;
-use site::site::{Site, UnderWay};
+use site::site::Site;
 use std::fmt::Debug;
 use std::process::Abort;
 use std::test::Fail;
@@ -38,14 +39,14 @@ pub(crate) fn blank_head<V: Value>(value: V) -> Head<V> {
     Head {
         name: 77,
         state: HeadState::Stranded,
-        stamp: 5,
-        value,
+        copy: Copied { stamp: 5, value },
         swap_tick: 6,
         inquiry_tick: 7,
-        best_stamp: 8,
-        best_value: value,
-        held: [9; 64],
-        held_count: 3,
+        best: Copied { stamp: 8, value },
+        held: Names {
+            list: [9; 64],
+            count: 3,
+        },
     }
 }
 
@@ -62,8 +63,7 @@ pub(crate) fn item(
         sender,
         receiver,
         sent,
-        stamp,
-        value: NEXT,
+        copy: Copied { stamp, value: NEXT },
     }
 }
 
@@ -74,8 +74,7 @@ pub(crate) fn blank_place<V: Value>(value: V) -> MailPlace<V> {
         sender: 0,
         receiver: 0,
         sent: 0,
-        stamp: -1,
-        value,
+        copy: Copied { stamp: -1, value },
     }
 }
 
@@ -84,25 +83,23 @@ pub(crate) fn head(name: u32, state: HeadState, stamp: i64) -> Head<Plan> {
     Head {
         name,
         state,
-        stamp,
-        value: START,
+        copy: Copied {
+            stamp,
+            value: START,
+        },
         swap_tick: 0,
         inquiry_tick: 0,
-        best_stamp: -1,
-        best_value: START,
-        held: [0; 64],
-        held_count: 0,
+        best: Copied {
+            stamp: -1,
+            value: START,
+        },
+        held: Names::new(),
     }
 }
 
 // The four heads of a new site.
 pub(crate) fn new_heads() -> [Head<Plan>; 4] {
-    [
-        head(1, HeadState::Active, 0),
-        head(2, HeadState::Active, 0),
-        head(3, HeadState::Active, 0),
-        head(4, HeadState::Active, 0),
-    ]
+    [1, 2, 3, 4].map(|name| head(name, HeadState::Active, 0))
 }
 
 // A site of four heads, delay limit 1, one swap in a tick.
@@ -112,23 +109,12 @@ pub(crate) fn new_site() -> Result<Site, Fail> {
     Ok(Site::make(&mut heads, &mut mail, 1, 1, START)?)
 }
 
-// The number of a refusal, and 0 for every other answer.
-pub(crate) fn number<V: Value>(a: &Answer<V>) -> u32 {
+// The number of a refusal; other answers have none.
+fn number<V: Value>(a: &Answer<V>) -> Option<u32> {
     match a {
-        Answer::Refused(why) => why.number(),
-        _ => 0,
+        Answer::Refused(why) => Some(u32::from(*why)),
+        _ => None,
     }
-}
-
-// What the site answers to a call.
-pub(crate) fn ask<V: Value, L: Log<V>>(
-    site: &mut Site,
-    heads: &mut [Head<V>],
-    mail: &mut [MailPlace<V>],
-    log: &mut L,
-    call: &Call<V>,
-) -> Answer<V> {
-    perform(site, heads, mail, log, call)
 }
 
 // Asks one call after another, and holds each answer to the expected one.
@@ -141,138 +127,71 @@ pub(crate) fn play<V: Value + PartialEq + Debug, L: Log<V>>(
     table: &[(Call<V>, Answer<V>)],
 ) {
     for (call, expected) in table {
-        assert_eq!(rt; ask(site, heads, mail, log, call), *expected);
+        assert_eq!(rt; perform(site, heads, mail, log, call), *expected);
     }
 }
 
-fn begun(w: Option<UnderWay>) -> Option<(u32, u32)> {
-    match w {
-        None => None,
-        Some(u) => Some((u.writer, u.begin)),
+// A site and the tables that are lent to it.
+#[derive(Clone, Copy, PartialEq, Eq, Debug)]
+pub(crate) struct World<const HEADS: usize, const PLACES: usize> {
+    pub site: Site,
+    pub heads: [Head<Plan>; HEADS],
+    pub mail: [MailPlace<Plan>; PLACES],
+}
+
+impl<const HEADS: usize, const PLACES: usize> World<HEADS, PLACES> {
+    // Asks one call after another, and holds each answer to the expected one.
+    pub(crate) fn play<L: Log<Plan>>(
+        &mut self,
+        rt: &impl Abort,
+        log: &mut L,
+        table: &[(Call<Plan>, Answer<Plan>)],
+    ) {
+        play(
+            rt,
+            &mut self.site,
+            &mut self.heads,
+            &mut self.mail,
+            log,
+            table,
+        );
     }
-}
 
-pub(crate) fn same_site(a: &Site, b: &Site) -> bool {
-    a.size == b.size
-        && a.delay == b.delay
-        && a.swap_limit == b.swap_limit
-        && a.time == b.time
-        && a.swaps == b.swaps
-        && a.next_name == b.next_name
-        && begun(a.under_way) == begun(b.under_way)
-}
-
-pub(crate) fn same_head(a: &Head<Plan>, b: &Head<Plan>) -> bool {
-    a.name == b.name
-        && a.state == b.state
-        && a.stamp == b.stamp
-        && a.value == b.value
-        && a.swap_tick == b.swap_tick
-        && a.inquiry_tick == b.inquiry_tick
-        && a.best_stamp == b.best_stamp
-        && a.best_value == b.best_value
-        && a.held == b.held
-        && a.held_count == b.held_count
-}
-
-pub(crate) fn same_heads(a: &[Head<Plan>], b: &[Head<Plan>]) -> bool {
-    for (i, h) in a.iter().enumerate() {
-        if b.len() <= i || !same_head(h, &b[i]) {
-            return false;
+    // Holds each call to the number of its refusal, after which everything is as it was.
+    pub(crate) fn refused<L: Log<Plan>>(
+        self,
+        rt: &impl Abort,
+        log: &mut L,
+        table: &[(Call<Plan>, u32)],
+    ) {
+        let before = (log.count(), log.free());
+        let mut after = self;
+        for (call, expected) in table {
+            let answer = perform(
+                &mut after.site,
+                &mut after.heads,
+                &mut after.mail,
+                log,
+                call,
+            );
+            assert_eq!(rt; number(&answer), Some(*expected));
+            assert_eq!(rt; after, self);
+            assert_eq!(rt; (log.count(), log.free()), before);
         }
     }
-    a.len() == b.len()
-}
 
-pub(crate) fn same_place(a: &MailPlace<Plan>, b: &MailPlace<Plan>) -> bool {
-    a.kind == b.kind
-        && a.sender == b.sender
-        && a.receiver == b.receiver
-        && a.sent == b.sent
-        && a.stamp == b.stamp
-        && a.value == b.value
-}
-
-pub(crate) fn same_mail(a: &[MailPlace<Plan>], b: &[MailPlace<Plan>]) -> bool {
-    for (i, p) in a.iter().enumerate() {
-        if b.len() <= i || !same_place(p, &b[i]) {
-            return false;
-        }
+    // How many items of this kind, sender and receiver are in the mail.
+    pub(crate) fn count_of(&self, kind: MailKind, sender: u32, receiver: u32) -> usize {
+        self.mail
+            .iter()
+            .filter(|p| p.kind == Some(kind) && p.sender == sender && p.receiver == receiver)
+            .count()
     }
-    a.len() == b.len()
-}
 
-// Holds each call to the number of its refusal, after which everything is as it was.
-pub(crate) fn refused<L: Log<Plan>>(
-    rt: &impl Abort,
-    site: Site,
-    heads: [Head<Plan>; 4],
-    mail: [MailPlace<Plan>; 16],
-    log: &mut L,
-    table: &[(Call<Plan>, u32)],
-) {
-    let mut new_site = site;
-    let mut new_heads = heads;
-    let mut new_mail = mail;
-    refused_on(
-        rt,
-        &mut new_site,
-        &mut new_heads,
-        &mut new_mail,
-        log,
-        table,
-        &site,
-        &heads,
-        &mail,
-    );
-}
-
-pub(crate) fn refused_on<L: Log<Plan>>(
-    rt: &impl Abort,
-    site: &mut Site,
-    heads: &mut [Head<Plan>],
-    mail: &mut [MailPlace<Plan>],
-    log: &mut L,
-    table: &[(Call<Plan>, u32)],
-    old_site: &Site,
-    old_heads: &[Head<Plan>],
-    old_mail: &[MailPlace<Plan>],
-) {
-    let before = (log.count(), log.free());
-    for (call, expected) in table {
-        assert_eq!(rt; number(&ask(site, heads, mail, log, call)), *expected);
-        assert!(rt; same_site(site, old_site));
-        assert!(rt; same_heads(heads, old_heads));
-        assert!(rt; same_mail(mail, old_mail));
-        assert_eq!(rt; (log.count(), log.free()), before);
+    // How many items are in the mail.
+    pub(crate) fn count_all(&self) -> usize {
+        self.mail.iter().filter(|p| p.kind.is_some()).count()
     }
-}
-
-// How many items of this kind, sender and receiver are in the mail.
-pub(crate) fn count_of(
-    mail: &[MailPlace<Plan>],
-    kind: MailKind,
-    sender: u32,
-    receiver: u32,
-) -> usize {
-    let mut count: usize = 0;
-    for p in mail {
-        if p.kind == Some(kind) && p.sender == sender && p.receiver == receiver {
-            count = count.saturating_add(1);
-        }
-    }
-    count
-}
-
-// How many items are in the mail.
-pub(crate) fn count_all(mail: &[MailPlace<Plan>]) -> usize {
-    let mut count: usize = 0;
-    for p in mail {
-        if p.kind.is_some() {
-            count = count.saturating_add(1);
-        }
-    }
-    count
 }
 
 pub(crate) fn bring<V: Value>(kind: MailKind, sender: u32, receiver: u32) -> Call<V> {

@@ -2,7 +2,8 @@
 use Rattle.std.proofs.Common.{◌≡◌, ℕ, zero, suc, ◌+◌, ◌-◌, Bool, true, false, cond, not, List, [], ◌∷◌, ◌++◌, map, length, is_some, Some, None, Option, sym, refl, ap, ◌∙◌, subst, arith}
 use Rattle.std.specs.List.Sorted.{IsPermutation}
 use Rattle.std.proofs.lemmas.Bool.{cond-true, cond-false}
-use Rattle.std.proofs.lemmas.List.Sorted.{IsPermutation-refl, IsPermutation-cons, IsPermutation-trans, IsPermutation-swap}
+use Rattle.std.proofs.lemmas.List.{append_assoc}
+use Rattle.std.proofs.lemmas.List.Sorted.{IsPermutation-refl, IsPermutation-cons, IsPermutation-trans, IsPermutation-sym, IsPermutation-middle, IsPermutation-append_left, IsPermutation-append_right, IsPermutation-append_comm}
 use Rattle.protocol.specs.Heads.{holds_of}
 use Rattle.protocol.specs.Items.{Item, dropping}
 use Rattle.tables.specs.declared.mail.MailPlace.{MailPlace}
@@ -13,13 +14,6 @@ use Rattle.tables.proofs.Refilling.{refilled}
 
 pub same_bag : {X : Type 0} {xs xs' ys ys' : List X} → xs' ≡ xs → ys' ≡ ys → IsPermutation xs ys → IsPermutation xs' ys'
 same_bag {X} {xs} {xs'} {ys} {ys'} p q s = subst (λ zs. IsPermutation zs ys') (sym p) (subst (λ zs. IsPermutation xs zs) (sym q) s)
-
-pub to_middle : {X : Type 0} (x : X) (xs ys : List X) → IsPermutation (x ∷ (xs ++ ys)) (xs ++ x ∷ ys)
-to_middle x [] ys = IsPermutation-refl (x ∷ ys)
-to_middle x (y ∷ xs) ys =
-    IsPermutation-trans (x ∷ y ∷ (xs ++ ys)) (y ∷ x ∷ (xs ++ ys)) (y ∷ (xs ++ x ∷ ys))
-    (IsPermutation-swap (x ∷ y ∷ (xs ++ ys)) (y ∷ x ∷ (xs ++ ys)) 0 1 (omega arith) (omega arith) refl)
-    (IsPermutation-cons y (x ∷ (xs ++ ys)) (xs ++ x ∷ ys) (to_middle x xs ys))
 
 pub left_as : {V : Type 0} {ps qs : List (MailPlace V)} {is : List (Item V)} → ps ≡ qs → IsPermutation (items_of qs) is → IsPermutation (items_of ps) is
 left_as {V} {ps} {qs} {is} e s = subst (λ zs. IsPermutation (items_of zs) is) (sym e) s
@@ -35,7 +29,7 @@ module _ {V : Type 0} where
 
   with_middle : (o : Option (Item V)) (xs ys : List (Item V)) → IsPermutation (with_item o (xs ++ ys)) (xs ++ with_item o ys)
   with_middle None xs ys = IsPermutation-refl (xs ++ ys)
-  with_middle (Some x) xs ys = to_middle x xs ys
+  with_middle (Some x) xs ys = IsPermutation-sym (xs ++ x ∷ ys) (x ∷ (xs ++ ys)) (IsPermutation-middle xs x ys)
 
   sent_none : (n : ℕ) (item : MailPlace V) → sent n item [] ≡ []
   sent_none zero item = refl
@@ -149,15 +143,19 @@ module _ {V : Type 0} where
   dropping_none [] = refl
   dropping_none (x ∷ is) = ap (λ zs. x ∷ zs) (dropping_none is)
 
-  kept_item : (o : Option (Item V)) → o ≡ left_of (λ _. false) o
-  kept_item None = refl
-  kept_item (Some x) = refl
+  pub items_append : (ps qs : List (MailPlace V)) → items_of (ps ++ qs) ≡ items_of ps ++ items_of qs
+  items_append [] qs = refl
+  items_append (p ∷ ps) qs = ap (with_item (item_of p)) (items_append ps qs) ∙ sym (with_append (item_of p) (items_of ps) (items_of qs))
 
-  -- nothing is cleared
-  pub filled_bag : (item : MailPlace V) (ps : List (MailPlace V)) (names : List ℕ) → IsPermutation (items_of (refilled (λ p. p) item ps names)) (items_of ps ++ sent (length ps - length (items_of ps)) item names)
-  filled_bag item ps names =
-      same_bag refl (ap (λ is. is ++ sent (length ps - length is) item names) (sym (dropping_none (items_of ps))))
-      (refilled_bag (λ p. p) (λ _. false) (λ p. kept_item (item_of p)) item ps names)
+  -- items came into a part of the mail
+  pub part_filled : (xs ys rest : List (MailPlace V)) (is : List (Item V)) → IsPermutation (items_of ys) (items_of xs ++ is) → IsPermutation (items_of (ys ++ rest)) (items_of (xs ++ rest) ++ is)
+  part_filled xs ys rest is s =
+      let qs = items_of xs in
+      let rs = items_of rest in
+      same_bag (items_append ys rest) (ap (λ zs. zs ++ is) (items_append xs rest) ∙ append_assoc qs rs is)
+      (IsPermutation-trans (items_of ys ++ rs) ((qs ++ is) ++ rs) (qs ++ (rs ++ is))
+      (IsPermutation-append_left rs (items_of ys) (qs ++ is) s)
+      (same_bag (append_assoc qs is rs) refl (IsPermutation-append_right qs (is ++ rs) (rs ++ is) (IsPermutation-append_comm is rs))))
 
   -- every place is empty
   pub no_items : (ps : List (MailPlace V)) → items_of (map without_item ps) ≡ []

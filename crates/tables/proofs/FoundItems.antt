@@ -1,15 +1,14 @@
 -- The first item that passes a test, by its place in the mail, and what a change of one place makes of the items.
 use Rattle.std.proofs.Common.{◌≡◌, ℕ, zero, suc, ◌<◌, Bool, true, false, cond, List, [], ◌∷◌, ◌++◌, length, get_or, set, Some, None, Option, sym, refl, ap, ◌∙◌, arith}
 use Rattle.std.specs.List.Sorted.{IsPermutation}
-use Rattle.std.proofs.lemmas.List.{append-nil}
 use Rattle.std.proofs.lemmas.Bool.{cond-true, cond-false}
-use Rattle.std.proofs.lemmas.List.Sorted.{IsPermutation-refl, IsPermutation-sym, IsPermutation-trans, IsPermutation-swap}
+use Rattle.std.proofs.lemmas.List.Sorted.{IsPermutation-refl, IsPermutation-sym, IsPermutation-to_front, IsPermutation-trans, IsPermutation-swap}
 use Rattle.protocol.specs.Places.{first, all_but_first}
 use Rattle.protocol.specs.Heads.{holds_of}
 use Rattle.protocol.specs.Items.{Item}
 use Rattle.tables.specs.declared.mail.MailPlace.{MailPlace}
 use Rattle.tables.specs.MailPlaces.{item_of, items_of, with_item}
-use Rattle.tables.proofs.Bags.{same_bag, to_middle, with_shuffled}
+use Rattle.tables.proofs.Bags.{same_bag, with_shuffled}
 use Rattle.tables.proofs.Found.{Found, here, later}
 
 module _ {V : Type 0} (t : Item V → Bool) where
@@ -74,7 +73,7 @@ module _ {V : Type 0} where
       (with_with b o js))
 
   to_end : (x : Item V) (is : List (Item V)) → IsPermutation (x ∷ is) (is ++ x ∷ [])
-  to_end x is = same_bag (ap (λ zs. x ∷ zs) (sym (append-nil is))) refl (to_middle x is [])
+  to_end x is = IsPermutation-sym (is ++ x ∷ []) (x ∷ is) (IsPermutation-to_front is x)
 
   -- an empty place takes an item
   pub put_in : (ps : List (MailPlace V)) (i : ℕ) (q d : MailPlace V) (x : Item V) → i < length ps → item_of (get_or ps i d) ≡ None → item_of q ≡ Some x → IsPermutation (items_of (set ps i q)) (items_of ps ++ x ∷ [])
@@ -83,8 +82,3 @@ module _ {V : Type 0} where
       (IsPermutation-sym (x ∷ items_of ps) (items_of (set ps i q))
       (same_bag (ap (λ o. with_item o (items_of ps)) (sym f)) (ap (λ o. with_item o (items_of (set ps i q))) (sym e)) (exchanged_item ps i q d h)))
       (to_end x (items_of ps))
-
-  -- a place loses its item
-  pub taken_out : (ps : List (MailPlace V)) (i : ℕ) (q d : MailPlace V) (x : Item V) → i < length ps → item_of (get_or ps i d) ≡ Some x → item_of q ≡ None → IsPermutation (items_of ps) (x ∷ items_of (set ps i q))
-  taken_out ps i q d x h e f =
-      same_bag (ap (λ o. with_item o (items_of ps)) (sym f)) (ap (λ o. with_item o (items_of (set ps i q))) (sym e)) (exchanged_item ps i q d h)

@@ -2,7 +2,6 @@ pub mod Bags
 pub mod Counts
 pub mod Found
 pub mod FoundItems
-pub mod HeldNames
 pub mod Refilling
 pub mod Rewritten
 pub mod Searches

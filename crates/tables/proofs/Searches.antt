@@ -2,24 +2,7 @@
 use Rattle.std.proofs.Common.{◌≡◌, ℕ, ◌+◌, ◌<◌, ◌≤◌, Bool, true, false, cond, List, ◌∷◌, length, get_or, drop, Some, None, sym, ap, ◌∙◌}
 use Rattle.std.proofs.lemmas.List.{drop_more, drop_all}
 use Rattle.std.proofs.lemmas.Bool.{cond-true, cond-false}
-use Rattle.protocol.specs.Places.{first}
 use Rattle.tables.specs.FirstPlaces.{place_from}
-
-module _ {X : Type 0} (p : X → Bool) (xs : List X) (i : ℕ) where
-  at_place : (d : X) → i < length xs → first p (drop i xs) ≡ cond (p (get_or xs i d)) (Some (get_or xs i d)) (first p (drop (i + 1) xs))
-  at_place d h = ap (first p) (drop_more xs i d h)
-
-  -- it stands here
-  pub first_here : (d : X) → i < length xs → p (get_or xs i d) ≡ true → first p (drop i xs) ≡ Some (get_or xs i d)
-  first_here d h e = at_place d h ∙ cond-true (p (get_or xs i d)) (Some (get_or xs i d)) (first p (drop (i + 1) xs)) e
-
-  -- it does not stand here
-  pub first_past : (d : X) → i < length xs → p (get_or xs i d) ≡ false → first p (drop (i + 1) xs) ≡ first p (drop i xs)
-  first_past d h e = sym (at_place d h ∙ cond-false (p (get_or xs i d)) (Some (get_or xs i d)) (first p (drop (i + 1) xs)) e)
-
-  -- nothing is left
-  pub first_none : length xs ≤ i → first p (drop i xs) ≡ None
-  first_none h = ap (first p) (drop_all i xs h)
 
 -- what is left of a list from the element that was read on
 pub drop_read : {X : Type 0} (xs : List X) (i : ℕ) (x : X) → i < length xs → x ≡ get_or xs i x → drop i xs ≡ x ∷ drop (i + 1) xs

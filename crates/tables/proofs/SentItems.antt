@@ -1,7 +1,7 @@
 -- The items that are sent at once, when there is room for all of them.
-use Rattle.std.proofs.Common.{◌≡◌, ℕ, zero, suc, ◌+◌, ◌-◌, ◌≤◌, min, List, [], ◌∷◌, map, length, take, drop, Some, refl, ap, ◌∙◌, arith}
+use Rattle.std.proofs.Common.{◌≡◌, ℕ, zero, suc, ◌+◌, ◌<◌, ◌≤◌, List, [], ◌∷◌, ◌++◌, map, length, get_or, take, Some, sym, refl, ap, ◌∙◌, arith}
 use Rattle.std.specs.List.{remove}
-use Rattle.std.proofs.lemmas.List.{take_all, length-append, length-take, length-drop, length-map}
+use Rattle.std.proofs.lemmas.List.{take_all, take_more, map-append, length-take-le, length-map}
 use Rattle.protocol.specs.Items.{Item, to_each}
 use Rattle.tables.specs.declared.head.Head.{Head}
 use Rattle.tables.specs.declared.mail.MailPlace.{MailPlace}
@@ -32,9 +32,35 @@ module _ {V : Type 0} (item : MailPlace V) (f : ℕ → Item V) (told : (b : ℕ
   pub each_to_others : (i : ℕ) (hs : List (Head V)) → items_of (map (addressed item) (names_but i hs)) ≡ to_each f (heads_of (remove hs i))
   each_to_others i hs = each (names_but i hs) ∙ ap (map f) (removed_map (λ h. h.name) hs i) ∙ to_names (remove hs i)
 
--- how many names are left
-pub length_but : {V : Type 0} (i : ℕ) (hs : List (Head V)) → length (names_but i hs) ≡ min i (length hs) + (length hs - suc i)
-length_but i hs =
-    let names = map (λ h. h.name) hs in
-    let n = length-map hs (λ h. h.name) in
-    length-append (take i names) (drop (suc i) names) ∙ omega (arith, length-take i names, length-drop (suc i) names)
+pushed_past : (xs : List ℕ) (k : ℕ) (y : ℕ) → length xs ≡ k → remove (xs ++ y ∷ []) k ≡ remove xs k
+pushed_past [] zero y e = refl
+pushed_past [] (suc k) y e = absurd (omega arith)
+pushed_past (x ∷ xs) zero y e = absurd (omega arith)
+pushed_past (x ∷ xs) (suc k) y e = ap (λ zs. x ∷ zs) (pushed_past xs k y (omega arith))
+
+pushed : (xs : List ℕ) (k : ℕ) (y : ℕ) → (length xs ≡ k → ⊥) → remove (xs ++ y ∷ []) k ≡ remove xs k ++ y ∷ []
+pushed [] zero y n = absurd (n (omega arith))
+pushed [] (suc zero) y n = refl
+pushed [] (suc (suc k)) y n = refl
+pushed (x ∷ xs) zero y n = refl
+pushed (x ∷ xs) (suc k) y n = ap (λ zs. x ∷ zs) (pushed xs k y (λ e. n (omega arith)))
+
+-- the names of one place more
+module _ {V : Type 0} (hs : List (Head V)) (i but : ℕ) (h : Head V) (inside : i < length hs) (r : h ≡ get_or hs i h) where
+  name_of : Head V → ℕ
+  name_of k = k.name
+
+  more : map name_of (take (i + 1) hs) ≡ map name_of (take i hs) ++ h.name ∷ []
+  unfolding name_of
+  more = ap (map name_of) (take_more hs i h inside ∙ ap (λ k. take i hs ++ k ∷ []) (sym r)) ∙ map-append name_of (take i hs) (h ∷ [])
+
+  long : length (map name_of (take i hs)) ≡ i
+  long = length-map (take i hs) name_of ∙ length-take-le i hs (omega arith)
+
+  pub another : (i ≡ but → ⊥) → names_but but (take (i + 1) hs) ≡ names_but but (take i hs) ++ h.name ∷ []
+  unfolding name_of
+  another n = ap (λ xs. remove xs but) more ∙ pushed (map name_of (take i hs)) but h.name (λ e. n (omega (arith, e, long)))
+
+  pub left_out : i ≡ but → names_but but (take (i + 1) hs) ≡ names_but but (take i hs)
+  unfolding name_of
+  left_out e = ap (λ xs. remove xs but) more ∙ pushed_past (map name_of (take i hs)) but h.name (omega (arith, e, long))

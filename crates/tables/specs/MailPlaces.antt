@@ -4,13 +4,13 @@ use Rattle.protocol.specs.declared.kind.MailKind.{MailKind}
 use Rattle.protocol.specs.declared.kind.MailKind.TheVariants.{Write, Inquiry, Reply}
 use Rattle.protocol.specs.Items.{Item, write, inquiry, reply}
 use Rattle.tables.specs.declared.mail.MailPlace.{MailPlace}
-use Rattle.tables.specs.HeadPlaces.{copy_of}
+use Rattle.records.specs.Copies.{copied}
 
 abbrev pub item_by : {V : Type 0} → Option MailKind → MailPlace V → Option (Item V)
 item_by None p = None
-item_by (Some Write) p = Some (write p.sender p.receiver p.sent (copy_of p.stamp p.value))
+item_by (Some Write) p = Some (write p.sender p.receiver p.sent (copied p.copy))
 item_by (Some Inquiry) p = Some (inquiry p.sender p.receiver p.sent)
-item_by (Some Reply) p = Some (reply p.sender p.receiver p.sent (copy_of p.stamp p.value))
+item_by (Some Reply) p = Some (reply p.sender p.receiver p.sent (copied p.copy))
 
 abbrev pub item_of : {V : Type 0} → MailPlace V → Option (Item V)
 item_of p = item_by p.kind p
@@ -29,4 +29,4 @@ is_empty p = not (is_some (item_of p))
 
 -- the same item, to this receiver
 abbrev pub addressed : {V : Type 0} → MailPlace V → ℕ → MailPlace V
-addressed p b = record { kind = p.kind; sender = p.sender; receiver = b; sent = p.sent; stamp = p.stamp; value = p.value }
+addressed p b = record { kind = p.kind; sender = p.sender; receiver = b; sent = p.sent; copy = p.copy }

@@ -1,29 +1,19 @@
 -- What one pass over the mail leaves in its places.
-use Rattle.std.specs.Prelude.{ℕ, Bool, false, cond, List, map, take, Some, None, Option}
+use Rattle.std.specs.Prelude.{ℕ, Bool, cond, List, map, take, None}
 use Rattle.std.specs.List.{remove}
 use Rattle.protocol.specs.Heads.{holds_of}
 use Rattle.protocol.specs.Items.{Item}
 use Rattle.tables.specs.declared.head.Head.{Head}
 use Rattle.tables.specs.declared.mail.MailPlace.{MailPlace}
-use Rattle.tables.specs.MailPlaces.{item_of, items_of, is_empty, addressed}
+use Rattle.tables.specs.MailPlaces.{item_of, items_of, addressed}
 
 -- the place when its item is gone
 abbrev pub without_item : {V : Type 0} → MailPlace V → MailPlace V
-without_item p = record { kind = None; sender = p.sender; receiver = p.receiver; sent = p.sent; stamp = p.stamp; value = p.value }
+without_item p = record { kind = None; sender = p.sender; receiver = p.receiver; sent = p.sent; copy = p.copy }
 
 -- the place when an item that passes is gone
 abbrev pub cleared : {V : Type 0} → (Item V → Bool) → MailPlace V → MailPlace V
 cleared t p = cond (holds_of t (item_of p)) (without_item p) p
-
--- whether the place takes an item to the next receiver
-abbrev pub takes : {V : Type 0} → MailPlace V → Option ℕ → Bool
-takes p None = false
-takes p (Some b) = is_empty p
-
--- the place with an item to the next receiver, if it takes one
-abbrev pub filled : {V : Type 0} → MailPlace V → MailPlace V → Option ℕ → MailPlace V
-filled item p None = p
-filled item p (Some b) = cond (is_empty p) (addressed item b) p
 
 -- the items to the receivers for which there is an empty place
 abbrev pub sent : {V : Type 0} → ℕ → MailPlace V → List ℕ → List (Item V)

@@ -1,79 +1,39 @@
 // A head's turn in a tick.
-ghost use Rattle.std.specs.Prelude.{◌≡◌, ◌+◌, ◌-◌, ◌^◌, ◌<◌, ◌==◌};
-ghost use Rattle.protocol.specs.Heads.{newer};
-ghost use Rattle.tables.specs.HeadPlaces.{head_of, copy_of};
-ghost use Rattle.protocol.specs.Tick.{turn as turn_told, activates_or, rests, turned_by, strands, inquires};
+ghost use Rattle.std.specs.Prelude.{◌≡◌};
+ghost use Rattle.protocol.specs.Tick.{turn as turn_told, activates_or, rests, turned_by};
+ghost use Rattle.records.specs.Copies.{copied};
+ghost use Rattle.tables.specs.HeadPlaces.{head_of};
 ghost use Rattle.tables.specs.Turns.{turn_of};
 
-use heads::changes::is_newer;
 use protocol::state::HeadState;
+use records::clock::Clock;
+use records::copied::Copied;
 use tables::head::Head;
 use tables::turn::Turn;
 
-// What the head does in the tick that makes the time this one.
-pub fn turn_at<V: Copy>(h: &Head<V>, delay: u32, time: u32) -> Turn<V>
-    ensures { turn_of result ≡ turn_told delay time (head_of h.now) }
+// What the head does in the tick that makes the time that of the clock.
+pub fn turn_at<V: Copy>(h: &Head<V>, clock: Clock) -> Turn<V>
+    ensures { turn_of result ≡ turn_told clock.delay clock.time (head_of h.now) }
 {
-    let h = *h;
     match h.state {
-        HeadState::Listening => {
-            if is_tick_after(h.swap_tick, delay as u64, time) {
-                listened(h)
-            } else {
-                Turn::Rest
-            }
+        HeadState::Listening if clock.is_after(1, h.swap_tick) => {
+            activate_or(Turn::Inquire, h.copy)
         }
-        HeadState::Inquiring => {
-            if is_tick_after(h.inquiry_tick, 2 * delay as u64, time) {
-                inquired(h)
-            } else {
-                Turn::Rest
-            }
+        HeadState::Inquiring if clock.is_after(2, h.inquiry_tick) => {
+            activate_or(Turn::Strand, h.copy.newer(h.best))
         }
-        HeadState::Active => Turn::Rest,
-        HeadState::Stranded => Turn::Rest,
+        _ => Turn::Rest,
     }
 }
 
-// Whether the time is this many ticks after a tick.
-fn is_tick_after(from: u32, ticks: u64, time: u32) -> bool
-    requires { ticks < 2 ^ 34 }
-    ensures { result ≡ (from + ticks == time) }
+// The turn of a head that would be active with this copy, and takes the other turn without one.
+fn activate_or<V: Copy>(otherwise: Turn<V>, copy: Copied<V>) -> Turn<V>
+    ensures { turn_of result ≡ activates_or (turn_of otherwise) (copied copy) }
 {
-    from as u64 + ticks == time as u64
-}
-
-// The turn of a head that has listened long enough.
-fn listened<V: Copy>(h: Head<V>) -> Turn<V>
-    ensures { turn_of result ≡ activates_or inquires (head_of h).copy }
-{
-    if 0 <= h.stamp {
-        Turn::Activate {
-            stamp: h.stamp,
-            value: h.value,
-        }
+    if copy.is_there() {
+        Turn::Activate(copy)
     } else {
-        Turn::Inquire
-    }
-}
-
-// The turn of a head that has waited long enough for replies.
-fn inquired<V: Copy>(h: Head<V>) -> Turn<V>
-    ensures { turn_of result ≡ activates_or strands (newer (head_of h).copy (head_of h).best) }
-{
-    if is_newer(h.stamp, h.best_stamp) {
-        return Turn::Activate {
-            stamp: h.best_stamp,
-            value: h.best_value,
-        };
-    }
-    if 0 <= h.stamp {
-        Turn::Activate {
-            stamp: h.stamp,
-            value: h.value,
-        }
-    } else {
-        Turn::Strand
+        otherwise
     }
 }
 
@@ -88,7 +48,7 @@ pub fn turned<V: Copy>(h: Head<V>, turn: Turn<V>, time: u32) -> Head<V>
             inquiry_tick: time,
             ..h
         },
-        Turn::Activate { stamp, value } => activated(h, stamp, value),
+        Turn::Activate(copy) => activated(h, copy),
         Turn::Strand => Head {
             state: HeadState::Stranded,
             ..h
@@ -97,15 +57,14 @@ pub fn turned<V: Copy>(h: Head<V>, turn: Turn<V>, time: u32) -> Head<V>
 }
 
 // The head when it turns active with this copy; without a copy it stays as it is.
-fn activated<V: Copy>(h: Head<V>, stamp: i64, value: V) -> Head<V>
-    ensures { head_of result ≡ turned_by 0 (activates_or rests (copy_of stamp value)) (head_of h) }
+fn activated<V: Copy>(h: Head<V>, copy: Copied<V>) -> Head<V>
+    ensures { head_of result ≡ turned_by 0 (activates_or rests (copied copy)) (head_of h) }
 {
-    if 0 <= stamp {
+    if copy.is_there() {
         Head {
             state: HeadState::Active,
-            stamp,
-            value,
-            held_count: 0,
+            copy,
+            held: h.held.cleared(),
             ..h
         }
     } else {

@@ -1,5 +1,5 @@
 -- The turns so far, and what is left of them.
-use Rattle.std.proofs.Common.{◌≡◌, ℕ, suc, ◌+◌, ◌<◌, ◌≤◌, List, [], ◌∷◌, ◌++◌, map, length, get_or, take, drop, Some, None, Option, sym, refl, ap, ◌∙◌, subst, add-one, arith, drop-cons}
+use Rattle.std.proofs.Common.{◌≡◌, ℕ, zero, suc, ◌+◌, ◌<◌, ◌≤◌, List, [], ◌∷◌, ◌++◌, map, length, get_or, take, drop, Some, None, Option, sym, refl, ap, ◌∙◌, subst, add-one, arith, drop-cons}
 use Rattle.std.specs.List.Sorted.{IsPermutation}
 use Rattle.std.proofs.lemmas.List.{length-map, length-take-le, take_at, drop_at, drop-drop, drop_all, drop_more, map_more, get_or_at}
 use Rattle.std.proofs.lemmas.List.Sorted.{IsPermutation-refl, IsPermutation-sym, IsPermutation-trans}
@@ -7,6 +7,12 @@ use Rattle.protocol.specs.Heads.{Head as Told}
 use Rattle.protocol.specs.Items.{Item}
 use Rattle.protocol.specs.Tick.{turn, turned, turn_mail, turns_mail, then_do}
 use Rattle.turns.proofs.SameMail.{turns_shuffled}
+
+-- what stands in a place of a list
+pub one_at : {X : Type 0} (xs : List X) (i : ℕ) → i < length xs → (x : X) × (x ≡ get_or xs i x)
+one_at [] i l = absurd (omega arith)
+one_at (x ∷ xs) zero l = (x, refl)
+one_at (x ∷ xs) (suc i) l = one_at xs i (omega arith)
 
 module _ {V : Type 0} (delay now : ℕ) (heads : List (Told V)) where
   -- the heads that have turned, before place i

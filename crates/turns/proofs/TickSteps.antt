@@ -81,8 +81,8 @@ module _ {V : Type 0} (lawful : V → Bool) (u : Site) (hs : List (Head V)) (ms 
 
   -- the checks behind the first decide, where the tables are the site's own
   pub tick_decided : (r : Option Refusal) → foreign_lent u.size (length hs) (length ms) ≡ false → u.size ≤ 64
-      → r ≡ refused_by ((ltb 64 (length hs), ForeignTables) ∷ ((leb last_tick u.time, LastTick) ∷ ((is_some (first (is_due u.delay u.time) (items_of ms)), MailDue) ∷ ((not (is_some (tick_mail s)), NoRoom) ∷ [])))) None
+      → refused_by ((ltb 64 (length hs), ForeignTables) ∷ ((leb last_tick u.time, LastTick) ∷ ((is_some (first (is_due u.delay u.time) (items_of ms)), MailDue) ∷ ((not (is_some (tick_mail s)), NoRoom) ∷ [])))) None ≡ r
       → tick_refusal s ≡ r
   tick_decided r own few e =
       let rest = refused_by ((leb last_tick u.time, LastTick) ∷ ((is_some (first (is_due u.delay u.time) (items_of ms)), MailDue) ∷ ((not (is_some (tick_mail s)), NoRoom) ∷ []))) None in
-      cond-false (foreign s) (Some ForeignTables) rest (foreign_by u hs ms m own) ∙ sym (e ∙ cond-false (ltb 64 (length hs)) (Some ForeignTables) rest (le-ltb 64 (length hs) (few_heads own few)))
+      cond-false (foreign s) (Some ForeignTables) rest (foreign_by u hs ms m own) ∙ sym (cond-false (ltb 64 (length hs)) (Some ForeignTables) rest (le-ltb 64 (length hs) (few_heads own few))) ∙ e

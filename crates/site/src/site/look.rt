@@ -5,7 +5,6 @@ ghost use Rattle.protocol.specs.Steps.{Step};
 ghost use Rattle.site.specs.States.{state_of, seen_answer};
 
 use crate::site::Site;
-use crate::site::checks::find_head;
 use acts::telling::copy_stamp;
 use kinds::value::Value;
 use protocol::refusal::Refusal;
@@ -23,7 +22,7 @@ impl Site {
     ) -> Result<(HeadState, i64), Refusal>
         ensures { (m : Meaning V) → Step V.Value.lawful (state_of self.now heads.now mail.now m) (Look name) (seen_answer result) (state_of self.now heads.now mail.now m) }
     {
-        let (_, h) = find_head(*self, heads, mail, name)?;
+        let (_, h) = self.find_head(heads, mail, name)?;
         Ok((h.state, copy_stamp(h)))
     }
 }

@@ -30,22 +30,24 @@ impl Site {
         check_setup(size, mail.len(), delay, swap_limit, start)?;
         fill(heads, start);
         take_out_all(mail);
-        Ok(new_site(size, delay, swap_limit))
+        Ok(Site::new(size, delay, swap_limit))
     }
-}
 
-// The numbers of a new site.
-fn new_site(size: usize, delay: u32, swap_limit: u32) -> Site
-    requires { size ≤ 64 }
-    ensures { site_of result ≡ record { size = size; delay = delay; swap_limit = swap_limit; time = 0; swaps = 0; next_name = size + 1; under_way = None } }
-{
-    Site {
-        size,
-        delay,
-        swap_limit,
-        time: 0,
-        swaps: 0,
-        next_name: size as u32 + 1,
-        under_way: None,
+    // The numbers of a new site.
+    fn new(size: usize, delay: u32, swap_limit: u32) -> Site
+        requires { size ≤ 64 }
+        ensures { site_of result ≡ record { size = size; delay = delay; swap_limit = swap_limit; time = 0; swaps = 0; next_name = size + 1; under_way = None } }
+    {
+        // The cast loses nothing, which is proved; a conversion would have an error that cannot come.
+        let next_name = size as u32 + 1;
+        Site {
+            size,
+            delay,
+            swap_limit,
+            time: 0,
+            swaps: 0,
+            next_name,
+            under_way: None,
+        }
     }
 }

@@ -8,17 +8,15 @@ ghost use Rattle.site.specs.Checks.{AfterSwap};
 ghost use Rattle.site.specs.States.{site_of, state_of, swapped_answer};
 
 use crate::site::Site;
-use crate::site::checks::find_head;
 use heads::changes::newcomer;
-use heads::places::{forget_everywhere, put_head};
+use heads::places::forget_everywhere;
 use kinds::value::Value;
+use logs::entry::LAST_NUMBER;
 use mailing::passes::drop_mail_with;
 use protocol::refusal::Refusal;
+use records::places::put;
 use tables::head::Head;
 use tables::mail::MailPlace;
-
-// The highest name.
-const LAST_NAME: u32 = 268_435_455;
 
 impl Site {
     // Swaps the head with this name for a newcomer, and answers its name.
@@ -32,41 +30,38 @@ impl Site {
         ensures kept { is_err result ≡ true → (self.new ≡ self.old) × (heads.new ≡ heads.old) × (mail.new ≡ mail.old) }
     {
         let site = *self;
-        let (i, h) = find_head(site, heads, mail, name)?;
-        let after = after_swap(site, name)?;
+        let (i, h) = site.find_head(heads, mail, name)?;
+        let after = site.after_swap(name)?;
         forget_everywhere(heads, name);
-        put_head(heads, i, newcomer(h, site.next_name, site.time));
+        put(heads, i, newcomer(h, site.next_name, site.time));
         drop_mail_with(mail, name);
         *self = after;
         Ok(site.next_name)
     }
-}
 
-// The site when the head with this name is swapped, or why it is not.
-fn after_swap(site: Site, name: u32) -> Result<Site, Refusal>
-    ensures { AfterSwap site name result }
-{
-    if is_writing(site, name) {
-        return Err(Refusal::WritingHead);
+    // The site when the head with this name is swapped, or why it is not.
+    fn after_swap(self, name: u32) -> Result<Site, Refusal>
+        ensures { AfterSwap self name result }
+    {
+        if self.is_writing(name) {
+            return Err(Refusal::WritingHead);
+        }
+        if self.swap_limit <= self.swaps {
+            return Err(Refusal::SwapLimit);
+        }
+        if LAST_NUMBER < self.next_name {
+            return Err(Refusal::NamesUsedUp);
+        }
+        let mut after = self;
+        after.swaps += 1;
+        after.next_name += 1;
+        Ok(after)
     }
-    if site.swap_limit <= site.swaps {
-        return Err(Refusal::SwapLimit);
-    }
-    if LAST_NAME < site.next_name {
-        return Err(Refusal::NamesUsedUp);
-    }
-    let mut after = site;
-    after.swaps += 1;
-    after.next_name += 1;
-    Ok(after)
-}
 
-// Whether the write under way is that of this head.
-fn is_writing(site: Site, name: u32) -> bool
-    ensures { result ≡ writing name (site_of site) }
-{
-    match site.under_way {
-        None => false,
-        Some(u) => u.writer == name,
+    // Whether the write under way is that of this head.
+    fn is_writing(self, name: u32) -> bool
+        ensures { result ≡ writing name (site_of self) }
+    {
+        self.under_way.is_some_and(|write| write.writer == name)
     }
 }

@@ -4,12 +4,11 @@ ghost use Rattle.logs.specs.Meanings.{Meaning};
 ghost use Rattle.protocol.specs.declared.call.Call.TheVariants.{Tick};
 ghost use Rattle.protocol.specs.Numbers.{last_tick};
 ghost use Rattle.protocol.specs.Steps.{Step};
-ghost use Rattle.protocol.specs.Tick.{tick_site, still_under_way};
+ghost use Rattle.protocol.specs.Tick.{tick_site};
 ghost use Rattle.site.specs.Checks.{AfterTick};
-ghost use Rattle.site.specs.States.{site_of, under_way_of, state_of, ticked_answer};
+ghost use Rattle.site.specs.States.{site_of, state_of, ticked_answer};
 
-use crate::site::checks::is_foreign;
-use crate::site::{Site, UnderWay};
+use crate::site::Site;
 use kinds::value::Value;
 use protocol::refusal::Refusal;
 use room::tick::foresee;
@@ -29,55 +28,36 @@ impl Site {
         ensures kept { is_err result ≡ true → (self.new ≡ self.old) × (heads.new ≡ heads.old) × (mail.new ≡ mail.old) }
     {
         let site = *self;
-        let after = after_tick(site, heads, mail)?;
-        let turned = activations(heads, site.delay, after.time) as u32;
-        turn_heads(heads, mail, site.delay, after.time);
+        let after = site.after_tick(heads, mail)?;
+        let clock = after.clock();
+        // There are no more than 64 heads, so the cast keeps the count.
+        let turned = activations(heads, clock) as u32;
+        turn_heads(heads, mail, clock);
         *self = after;
         Ok((after.time, turned))
     }
-}
 
-// The site when the clock has moved on, or why it does not.
-fn after_tick<V: Copy>(
-    site: Site,
-    heads: &[Head<V>],
-    mail: &[MailPlace<V>],
-) -> Result<Site, Refusal>
-    ensures { AfterTick site heads.now mail.now result }
-{
-    if is_foreign(site, heads.len(), mail.len()) {
-        return Err(Refusal::ForeignTables);
+    // The site when the clock has moved on, or why it does not.
+    fn after_tick<V: Copy>(self, heads: &[Head<V>], mail: &[MailPlace<V>]) -> Result<Site, Refusal>
+        ensures { AfterTick self heads.now mail.now result }
+    {
+        self.check_tables(heads.len(), mail.len())?;
+        foresee(heads, mail, self.clock())?;
+        Ok(self.moved_on())
     }
-    match foresee(heads, mail, site.delay, site.time) {
-        Some(why) => Err(why),
-        None => Ok(moved_on(site)),
-    }
-}
 
-// The site a tick later. Its swaps count from 0 again, and a write that is due is finished.
-fn moved_on(site: Site) -> Site
-    requires { site.time < last_tick }
-    ensures { site_of result ≡ tick_site (site_of site) }
-{
-    let mut after = site;
-    after.time += 1;
-    after.swaps = 0;
-    after.under_way = unfinished(site.under_way, site.delay, after.time);
-    after
-}
-
-// The write under way, unless it is finished at this time.
-fn unfinished(under_way: Option<UnderWay>, delay: u32, time: u32) -> Option<UnderWay>
-    ensures { under_way_of result ≡ still_under_way delay time (under_way_of under_way) }
-{
-    match under_way {
-        None => None,
-        Some(u) => {
-            if u.begin as u64 + delay as u64 == time as u64 {
-                None
-            } else {
-                Some(u)
-            }
-        }
+    // The site a tick later. Its swaps count from 0 again, and a write that is due is finished.
+    fn moved_on(self) -> Site
+        requires { self.time < last_tick }
+        ensures { site_of result ≡ tick_site (site_of self) }
+    {
+        let mut after = self;
+        after.time += 1;
+        after.swaps = 0;
+        let clock = after.clock();
+        after.under_way = self
+            .under_way
+            .filter(|write| !clock.is_after(1, write.begin));
+        after
     }
 }

@@ -6,13 +6,12 @@ ghost use Rattle.protocol.specs.Steps.{Step};
 ghost use Rattle.protocol.specs.Write.{write_site};
 ghost use Rattle.site.specs.States.{site_of, state_of, written_answer};
 
-use crate::site::checks::find_head;
 use crate::site::{Site, UnderWay};
 use acts::writing::{write_copy, write_item};
-use heads::places::put_head;
 use kinds::value::Value;
 use mailing::passes::broadcast;
 use protocol::refusal::Refusal;
+use records::places::put;
 use tables::head::Head;
 use tables::mail::MailPlace;
 
@@ -29,25 +28,23 @@ impl Site {
         ensures kept { is_err result ≡ true → (self.new ≡ self.old) × (heads.new ≡ heads.old) × (mail.new ≡ mail.old) }
     {
         let site = *self;
-        let (i, h) = find_head(site, heads, mail, name)?;
+        let (i, h) = site.find_head(heads, mail, name)?;
         let writer = write_copy(h, value, site.under_way.is_some())?;
-        if !broadcast(mail, write_item(writer, name, site.time), heads, i) {
-            return Err(Refusal::NoRoom);
-        }
-        put_head(heads, i, writer);
-        *self = after_write(site, name);
-        Ok(writer.stamp)
+        broadcast(mail, write_item(writer, name, site.time), heads, i)?;
+        put(heads, i, writer);
+        *self = site.after_write(name);
+        Ok(writer.copy.stamp)
     }
-}
 
-// The site when the head with this name has begun to write.
-fn after_write(site: Site, name: u32) -> Site
-    ensures { site_of result ≡ write_site (site_of site) name }
-{
-    let mut after = site;
-    after.under_way = Some(UnderWay {
-        writer: name,
-        begin: site.time,
-    });
-    after
+    // The site when the head with this name has begun to write.
+    fn after_write(self, name: u32) -> Site
+        ensures { site_of result ≡ write_site (site_of self) name }
+    {
+        let mut after = self;
+        after.under_way = Some(UnderWay {
+            writer: name,
+            begin: self.time,
+        });
+        after
+    }
 }

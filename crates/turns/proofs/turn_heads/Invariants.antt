@@ -6,5 +6,5 @@ use Rattle.turns.proofs.turn_heads.Given as goal
 
 abbrev pub invariant-loop-i : goal.invariant-loop-i
 invariant-loop-i g l =
-    (heads_of l.heads ≡ amid l.delay l.time (heads_of l.initial.heads) l.i)
-    × (length l.initial.heads ≤ 64 → Going l.delay l.time (heads_of l.initial.heads) (length l.initial.mail) (items_of l.initial.mail) l.i (items_of l.mail))
+    (heads_of l.heads ≡ amid l.clock.delay l.clock.time (heads_of l.initial.heads) l.i)
+    × (length l.initial.heads ≤ 64 → Going l.clock.delay l.clock.time (heads_of l.initial.heads) (length l.initial.mail) (items_of l.initial.mail) l.i (items_of l.mail))

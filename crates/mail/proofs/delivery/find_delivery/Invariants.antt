@@ -9,9 +9,9 @@ use Rattle.mail.proofs.delivery.find_delivery.Given as goal
 
 abbrev pub invariant-loop-i : goal.invariant-loop-i
 invariant-loop-i g l =
-    place_from (λ h. is_named l.receiver (head_of h)) l.i (drop l.i l.heads) ≡ place_of (λ h. is_named l.receiver (head_of h)) l.heads
+    place_from (λ h. is_named l.label.receiver (head_of h)) l.i (drop l.i l.heads) ≡ place_of (λ h. is_named l.label.receiver (head_of h)) l.heads
 
 abbrev pub invariant-loop-k : goal.invariant-loop-k
 invariant-loop-k g l =
-    place_from (λ p. holds_of (is_told l.kind l.sender l.receiver) (item_of p)) l.k (drop l.k l.mail)
-    ≡ place_of (λ p. holds_of (is_told l.kind l.sender l.receiver) (item_of p)) l.mail
+    place_from (λ p. holds_of (is_told l.label.kind l.label.sender l.label.receiver) (item_of p)) l.k (drop l.k l.mail)
+    ≡ place_of (λ p. holds_of (is_told l.label.kind l.label.sender l.label.receiver) (item_of p)) l.mail

@@ -1,61 +1,30 @@
-use Rattle.std.proofs.Common.{◌≡◌, ◌+◌, ◌<◌, ◌≤◌, length, get_or, take, drop, set, sym, refl, ap, ◌∙◌, arith}
-use Rattle.std.proofs.lemmas.List.{length-take, length-take-le, get_or-take}
-use Rattle.std.proofs.lemmas.Bool.{true≢false, false≢true, le-leb, lt-leb}
-use Rattle.tables.specs.MailPlaces.{items_of}
+use Rattle.std.proofs.Common.{◌≡◌, ◌+◌, ◌≤◌, ◌++◌, false, length, drop, map, sym, ◌∙◌, subst, tests, rules}
+use Rattle.std.proofs.lemmas.Bool.{le-leb}
+use Rattle.std.specs.List.Sorted.{IsPermutation}
+use Rattle.tables.specs.MailPlaces.{item_of, items_of, addressed}
 use Rattle.tables.specs.Passes.{names_but}
-use Rattle.tables.proofs.SentItems.{length_but}
-use Rattle.mailing.specs.EmptyPlaces.{placed, empties_from}
-use Rattle.mailing.proofs.EmptyPlaces.{empty_or_full, placed_more, placed_all, placed_bag}
+use Rattle.mailing.proofs.EmptyPlaces.{room_left, all_sent, nothing_goes}
 use Rattle.mailing.proofs.passes.broadcast.Goals as goal
 
-pub loop-k-preserved : goal.loop-k-preserved
-loop-k-preserved g c =
-    let n = c.count_others-wanted.result in
-    let xs = c.empty_places-found.result.0 in
-    let is = take n xs in
-    let names = names_but c.args.but c.args.heads.now in
-    let ps = c.loop-k.mail in
-    let k = c.loop-k.k in
-    let long : length is ≡ n = length-take-le n xs (omega arith) in
-    let h : k < length is = omega arith in
-    let l : k < length names = omega (arith, c.count_others-wanted.ensures) in
-    ap (placed c.args.item (drop (k + 1) is) (drop (k + 1) names)) (c.put_at.ensures ∙ ap (set ps (get_or xs k 0)) c.to.ensures)
-    ∙ placed_more c.args.item is names ps k (get_or xs k 0) c.other_name-name.result h l (sym (get_or-take n xs k 0 (omega arith))) c.other_name-name.ensures
-    ∙ c.loop-k.invariant
+pub slice_bounds-refill-end : goal.slice_bounds-refill-end
+slice_bounds-refill-end g c = (c.room_for.ensures.room c.in_ok-end.end c.in_ok-end.ensures.ok_part).0
 
-pub returns-then-wanted-gt-RECEIVERS : goal.returns-then-wanted-gt-RECEIVERS
-returns-then-wanted-gt-RECEIVERS g c =
-    let e = length_but c.args.but c.args.heads.now in
-    record { room = λ h. absurd (omega (arith, e, c.count_others-wanted.ensures)); sent = λ e. absurd (false≢true e); refused = λ _. refl }
-
-pub returns-then-found-wanted : goal.returns-then-found-wanted
-returns-then-found-wanted g c =
+pub returns-clause-room : goal.returns-clause-room
+returns-clause-room g c _ =
     let ps = c.args.mail.now in
-    let names = names_but c.args.but c.args.heads.now in
-    let e = empty_or_full 0 ps in
-    record {
-      room = λ _. sym (lt-leb (length (items_of ps) + length names) (length ps) (omega (arith, e, c.count_others-wanted.ensures, c.empty_places-found.ensures.count)));
-      sent = λ e. absurd (false≢true e);
-      refused = λ _. refl;
-    }
+    let names = c.as_slice-names.result.now in
+    let room = c.room_for.ensures.room c.in_ok-end.end c.in_ok-end.ensures.ok_part in
+    let all = c.as_slice-names.ensures ∙ c.names_of_others.ensures.names c.in_ok-receivers.receivers c.in_ok-receivers.ensures.ok_part in
+    sym (le-leb (length (items_of ps) + length (names_but c.args.but c.args.heads.now)) (length ps)
+    (subst (λ ns. length (items_of ps) + length ns ≤ length ps) all (room_left ps c.in_ok-end.end (length names) room.0 room.1)))
 
-pub returns : goal.returns
-returns g c =
+pub returns-clause-sent : goal.returns-clause-sent
+returns-clause-sent g c _ =
     let ps = c.args.mail.now in
-    let qs = c.loop-k.mail in
-    let n = c.count_others-wanted.result in
-    let xs = c.empty_places-found.result.0 in
-    let m = c.empty_places-found.result.1 in
-    let k = c.loop-k.k in
-    let names = names_but c.args.but c.args.heads.now in
-    let es = empties_from 0 ps in
-    let long : n ≡ length names = c.count_others-wanted.ensures in
-    let found : n ≤ length es = omega (arith, c.empty_places-found.ensures.count) in
-    let all : n ≡ m = omega (arith, c.empty_places-found.ensures.count) in
-    let e : take n xs ≡ take n es = ap (λ j. take j xs) all ∙ c.empty_places-found.ensures.places in
-    let l : length (take n xs) ≤ k = omega (arith, length-take n xs) in
-    record {
-      room = λ _. sym (le-leb (length (items_of ps) + length names) (length ps) (omega (arith, empty_or_full 0 ps)));
-      sent = λ _. placed_bag c.args.item n names ps qs (omega arith) found (placed_all c.args.item (take n xs) names qs k l ∙ c.loop-k.invariant ∙ ap (λ is. placed c.args.item is names ps) e);
-      refused = λ e. absurd (true≢false e);
-    }
+    let qs = c.refill.new.mail in
+    let names = c.as_slice-names.result.now in
+    let room = c.room_for.ensures.room c.in_ok-end.end c.in_ok-end.ensures.ok_part in
+    let all = c.as_slice-names.ensures ∙ c.names_of_others.ensures.names c.in_ok-receivers.receivers c.in_ok-receivers.ensures.ok_part in
+    subst (λ ns. IsPermutation (items_of (qs ++ drop c.in_ok-end.end ps)) (items_of ps ++ items_of (map (addressed c.args.item) ns))) all
+    (all_sent c.args.item names ps qs c.in_ok-end.end room.0 room.1
+    (c.refill.ensures (λ _. false) (λ p b k. let none : b ≡ false = search (rules, tests) in none ∙ sym (nothing_goes (item_of p)))))

@@ -1,7 +1,7 @@
-use Rattle.std.proofs.Common.{◌≡◌, ◌++◌, map, take, drop}
 use Rattle.protocol.specs.Items.{goes_with}
 use Rattle.tables.specs.Passes.{cleared}
+use Rattle.tables.proofs.Refilling.{Clearing}
 use Rattle.mailing.proofs.passes.drop_mail_with.Given as goal
 
 abbrev pub invariant-loop-p : goal.invariant-loop-p
-invariant-loop-p g l = l.mail ≡ map (cleared (goes_with l.name)) (take l.p-index l.initial.mail) ++ drop l.p-index l.initial.mail
+invariant-loop-p g l = Clearing (cleared (goes_with l.name)) l.initial.mail l.mail l.p-index

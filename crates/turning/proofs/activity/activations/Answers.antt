@@ -10,13 +10,13 @@ loop-h-preserved g c =
     elim c.if-activates.branch [
       | then-activates w ↦ (
         omega (arith, w.count-is, c.loop-h.invariant.0),
-        omega (arith, w.count-is, c.loop-h.invariant.1, activation_here xs i c.h-item.result c.loop-h-test.true c.h-item.is c.args.delay c.args.time true (sym w.if-activates.true ∙ c.activates.ensures)),
+        omega (arith, w.count-is, c.loop-h.invariant.1, activation_here xs i c.h-item.result c.loop-h-test.true c.h-item.is c.args.clock.delay c.args.clock.time true (sym w.if-activates.true ∙ c.activates.ensures)),
       )
       | else-activates w ↦ (
         omega (arith, w.count-is, c.loop-h.invariant.0),
-        omega (arith, w.count-is, c.loop-h.invariant.1, activation_here xs i c.h-item.result c.loop-h-test.true c.h-item.is c.args.delay c.args.time false (sym w.if-activates.false ∙ c.activates.ensures)),
+        omega (arith, w.count-is, c.loop-h.invariant.1, activation_here xs i c.h-item.result c.loop-h-test.true c.h-item.is c.args.clock.delay c.args.clock.time false (sym w.if-activates.false ∙ c.activates.ensures)),
       )
     ]
 
 pub returns : goal.returns
-returns g c = omega (arith, c.loop-h.invariant.1, no_more_activations c.args.heads.now c.loop-h.h-index c.args.delay c.args.time c.loop-h-test.false)
+returns g c = omega (arith, c.loop-h.invariant.1, no_more_activations c.args.heads.now c.loop-h.h-index c.args.clock.delay c.args.clock.time c.loop-h-test.false)

@@ -6,4 +6,4 @@ use Rattle.turning.proofs.activity.activations.Given as goal
 abbrev pub invariant-loop-h : goal.invariant-loop-h
 invariant-loop-h g l =
     (l.count ≤ l.h-index)
-    × (l.count + activations l.delay l.time (heads_of (drop l.h-index l.heads)) ≡ activations l.delay l.time (heads_of l.heads))
+    × (l.count + activations l.clock.delay l.clock.time (heads_of (drop l.h-index l.heads)) ≡ activations l.clock.delay l.clock.time (heads_of l.heads))

@@ -1,6 +1,5 @@
 use Rattle.std.proofs.Common.{length, refl, arith}
 use Rattle.std.proofs.lemmas.Result.{err_from_is_err_and}
-use Rattle.std.proofs.lemmas.Bool.{false≢true}
 use Rattle.acts.specs.Making.{setup_of}
 use Rattle.acts.proofs.MakeSteps.{few_heads, made}
 use Rattle.site.specs.Checks.{no_log}
@@ -12,18 +11,15 @@ returns-in_err-check_setup g c =
     let p = err_from_is_err_and c.from_residual.result c.from_residual.ensures.1 in
     rw (p.1, p.2) (record { made = λ m. c.in_err-check_setup.ensures m; kept = λ _. (refl, refl) })
 
-pub new_site-requires : goal.new_site-requires
-new_site-requires g c =
+pub new-requires : goal.new-requires
+new-requires g c =
     few_heads g.V.Value.lawful (setup_of (length c.args.heads.now) (length c.args.mail.now) c.args.delay c.args.swap_limit c.args.start no_log) (c.in_ok-check_setup.ensures no_log)
 
-pub returns : goal.returns
-returns g c =
+pub returns-clause-made : goal.returns-clause-made
+returns-clause-made g c =
     let few = few_heads g.V.Value.lawful (setup_of (length c.args.heads.now) (length c.args.mail.now) c.args.delay c.args.swap_limit c.args.start no_log) (c.in_ok-check_setup.ensures no_log) in
-    record {
-      made = λ m. (
-        c.in_ok-check_setup.ensures m,
-        made (site_of c.new_site.result) c.args.heads.now c.fill.new.heads c.args.mail.now c.take_out_all.new.mail c.args.delay c.args.swap_limit c.args.start m
-            c.new_site.ensures (c.fill.ensures.filled (omega (arith, few))) c.take_out_all.auto.mail c.take_out_all.ensures,
-      );
-      kept = λ e. absurd (false≢true e);
-    }
+    λ m. (
+      c.in_ok-check_setup.ensures m,
+      made (site_of c.new.result) c.args.heads.now c.fill.new.heads c.args.mail.now c.take_out_all.new.mail c.args.delay c.args.swap_limit c.args.start m
+          c.new.ensures (c.fill.ensures.filled (omega (arith, few))) c.take_out_all.auto.mail c.take_out_all.ensures,
+    )
