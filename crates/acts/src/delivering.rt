@@ -21,15 +21,15 @@ pub fn deliver<V: Copy>(
 ) -> Result<(Head<V>, MailPlace<V>), Refusal>
     ensures { Delivers time (item_of p) (head_of h) result }
 {
-    if is_too_many(h, p) {
+    if is_too_many(&h, p) {
         return Err(Refusal::NoRoom);
     }
     Ok((received(h, p), answering(h, p, time)))
 }
 
 // Whether the item would make the head hold a 65th name.
-fn is_too_many<V: Copy>(h: Head<V>, p: MailPlace<V>) -> bool
-    ensures { result ≡ overfills (item_of p) (head_of h) }
+fn is_too_many<V: Copy>(h: &Head<V>, p: MailPlace<V>) -> bool
+    ensures { result ≡ overfills (item_of p) (head_of h.now) }
 {
     p.kind == Some(MailKind::Inquiry)
         && !is_active(h.state)

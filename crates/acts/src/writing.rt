@@ -9,13 +9,15 @@ ghost use Rattle.acts.specs.Writing.{Writes, Written};
 
 use crate::telling::{copy_stamp, is_active};
 use kinds::value::Value;
-use logs::entry::LAST_NUMBER;
 use mail::item::item_from;
 use protocol::kind::MailKind;
 use protocol::refusal::Refusal;
 use records::copied::Copied;
 use tables::head::Head;
 use tables::mail::MailPlace;
+
+// The highest stamp.
+const LAST_STAMP: i64 = 268_435_455;
 
 // The head with the value and the stamp after its own, or why it does not write; busy: a write is under way.
 pub fn write_copy<V: Value>(h: Head<V>, value: V, busy: bool) -> Result<Head<V>, Refusal>
@@ -40,7 +42,7 @@ pub fn write_copy<V: Value>(h: Head<V>, value: V, busy: bool) -> Result<Head<V>,
 fn is_last<V: Copy>(h: Head<V>) -> bool
     ensures { result ≡ nat_lt last_number (next_stamp (head_of h).copy) }
 {
-    i64::from(LAST_NUMBER) <= h.copy.stamp
+    LAST_STAMP <= h.copy.stamp
 }
 
 // The head with the value and the stamp after its own; the first stamp where it has no copy.

@@ -1,5 +1,5 @@
 // What happens to one head.
-ghost use Rattle.std.specs.Prelude.{◌≡◌, true, false};
+ghost use Rattle.std.specs.Prelude.{◌≡◌, ◌==◌, true, false, not};
 ghost use Rattle.protocol.specs.Heads.{holding, forgetting, with_copy, with_best, newer};
 ghost use Rattle.protocol.specs.Swap.{newcomer as newcomer_of};
 ghost use Rattle.protocol.specs.Make.{original as original_of};
@@ -8,6 +8,7 @@ ghost use Rattle.tables.specs.HeadPlaces.{head_of, has_room};
 
 use protocol::state::HeadState;
 use records::copied::Copied;
+use records::names::NameTest;
 use tables::head::Head;
 
 // The head when a WRITE with this copy has reached it.
@@ -46,8 +47,22 @@ pub(crate) fn forget<V: Copy>(h: Head<V>, name: u32) -> Head<V>
     ensures { head_of result ≡ forgetting name (head_of h) }
 {
     Head {
-        held: h.held.filtered(|x| x != name),
+        held: h.held.filtered(&OtherThan { name }),
         ..h
+    }
+}
+
+// The names other than this one.
+#[derive(Drop)]
+struct OtherThan {
+    name: u32,
+}
+
+impl NameTest for OtherThan {
+    ghost passing = { λ other name. not (name == other.name) };
+
+    fn passes(&self, name: u32) -> bool {
+        name != self.name
     }
 }
 

@@ -1,89 +1,109 @@
--- Empty places of the mail, one after the other.
-use Rattle.std.proofs.Common.{◌≡◌, ℕ, suc, ◌+◌, ◌-◌, ◌≤◌, Bool, true, false, cond, List, [], ◌∷◌, ◌++◌, map, length, take, drop, Option, Some, None, sym, refl, ap, ◌∙◌, add-one, arith}
-use Rattle.std.proofs.lemmas.List.{take_all, length-append, length-take-le, length-drop, take-append-drop, take_rest}
-use Rattle.std.proofs.Math.Seq.{take-add}
+-- The empty places of the mail are found, and then each takes an item.
+use Rattle.std.proofs.Common.{◌≡◌, ℕ, zero, suc, ◌+◌, ◌-◌, ◌<◌, ◌≤◌, min, Bool, true, false, cond, List, [], ◌∷◌, ◌++◌, map, length, get_or, take, drop, set, sym, refl, ap, ◌∙◌, ap₂, arith}
 use Rattle.std.specs.List.Sorted.{IsPermutation}
-use Rattle.protocol.specs.Heads.{holds_of}
-use Rattle.protocol.specs.Items.{Item, dropping}
+use Rattle.std.proofs.lemmas.List.{append-nil, append_assoc, drop_more, drop_all, take_all, take_at, take_more_set, set_at, length-append, length-take-le, length_push}
 use Rattle.tables.specs.declared.mail.MailPlace.{MailPlace}
 use Rattle.tables.specs.MailPlaces.{item_of, items_of, is_empty, addressed}
-use Rattle.tables.specs.Passes.{sent}
-use Rattle.tables.specs.FirstPlaces.{place_from, place_of}
-use Rattle.tables.proofs.Bags.{same_bag, items_append, part_filled, dropping_none}
+use Rattle.mailing.specs.EmptyPlaces.{empties_from, placed}
+use Rattle.tables.proofs.Bags.{same_bag, filled_bag}
 use Rattle.tables.proofs.Counts.{length_with_item}
-use Rattle.tables.proofs.Found.{Found, here, later, found, found_within}
+use Rattle.tables.proofs.Refilling.{refilled}
+use Rattle.tables.proofs.Searches.{drop_read}
 
 module _ {V : Type 0} where
-  -- the places before the first empty one have each an item
-  full_before : {ps : List (MailPlace V)} {k : ℕ} → Found is_empty ps k → length (items_of (take (suc k) ps)) ≡ k
-  full_before (here {x} {xs} e) = length_with_item (item_of x) [] ∙ ap (λ b. cond b 0 1 + 0) e
-  full_before (later {x} {xs} {k} e f) =
-      let ih = full_before f in
-      length_with_item (item_of x) (items_of (take (suc k) xs)) ∙ ap (λ b. cond b 0 1 + length (items_of (take (suc k) xs))) e ∙ omega (arith, ih)
-
-  full_from : (ps : List (MailPlace V)) (i : ℕ) → place_from is_empty i ps ≡ None → length (items_of ps) ≡ length ps
-  full_from [] i e = omega arith
-  full_from (p ∷ ps) i e = length_with_item (item_of p) (items_of ps) ∙ by (is_empty p) e (full_from ps (i + 1))
+  -- an empty place, or an item
+  pub empty_or_full : (i : ℕ) (ps : List (MailPlace V)) → length (empties_from i ps) + length (items_of ps) ≡ length ps
+  empty_or_full i [] = refl
+  empty_or_full i (p ∷ ps) = ap (λ n. length (cond (is_empty p) (i ∷ es) es) + n) (length_with_item (item_of p) (items_of ps)) ∙ by (is_empty p) ∙ ap suc (empty_or_full (i + 1) ps)
     where
-      by : (b : Bool) → cond b (Some i) (place_from is_empty (i + 1) ps) ≡ None → (place_from is_empty (i + 1) ps ≡ None → length (items_of ps) ≡ length ps) → cond b 0 1 + length (items_of ps) ≡ length (p ∷ ps)
-      by true h ih = let z : ◌≡◌ {A = ℕ} 0 1 = cc in absurd (omega arith)
-      by false h ih = let n = ih h in omega (arith, n)
+      es : List ℕ
+      es = empties_from (i + 1) ps
 
-  -- a place has no more than one item
-  no_more_items : (ps : List (MailPlace V)) → length (items_of ps) ≤ length ps
-  no_more_items [] = omega arith
-  no_more_items (p ∷ ps) = let n = length_with_item (item_of p) (items_of ps) in let ih = no_more_items ps in let l = at_most_one (is_empty p) in omega (arith, n, ih, l)
-    where
-      at_most_one : (b : Bool) → cond b 0 1 ≤ 1
-      at_most_one true = omega arith
-      at_most_one false = omega arith
+      by : (b : Bool) → length (cond b (i ∷ es) es) + (cond b 0 1 + length (items_of ps)) ≡ suc (length es + length (items_of ps))
+      by true = omega arith
+      by false = omega arith
 
-  length_items : (ps qs : List (MailPlace V)) → length (items_of ps) + length (items_of qs) ≡ length (items_of (ps ++ qs))
-  length_items ps qs = sym (ap length (items_append ps qs) ∙ length-append (items_of ps) (items_of qs))
+  -- where this place is empty, it is noted
+  module _ (ps : List (MailPlace V)) (xs : List ℕ) (k i : ℕ) (p : MailPlace V) (h : i < length ps) (r : p ≡ get_or ps i p) where
+    here : empties_from i (drop i ps) ≡ cond (is_empty p) (i ∷ empties_from (i + 1) (drop (i + 1) ps)) (empties_from (i + 1) (drop (i + 1) ps))
+    here = ap (empties_from i) (drop_read ps i p h r)
 
-  module _ (ps : List (MailPlace V)) (e m : ℕ) (inside : e ≤ length ps) (empties : length (items_of (take e ps)) + m ≡ e) where
-    -- one more is found
-    pub one_more : (k : ℕ) → place_of is_empty (take (length ps - e) (drop e ps)) ≡ Some k → (e + (k + 1) ≤ length ps) × (length (items_of (take (e + (k + 1)) ps)) + (m + 1) ≡ e + (k + 1))
-    one_more k h =
-        let f = found is_empty (drop e ps) k (ap (place_of is_empty) (sym (take_rest ps e)) ∙ h) in
-        let n : length (items_of (take (e + (k + 1)) ps)) ≡ length (items_of (take e ps)) + k =
-        ap (λ qs. length (items_of qs)) (take-add e (k + 1) ps)
-        ∙ sym (length_items (take e ps) (take (k + 1) (drop e ps)))
-        ∙ ap (λ j. length (items_of (take e ps)) + j) (ap (λ m. length (items_of (take m (drop e ps)))) (add-one k) ∙ full_before f) in
-        let l = found_within is_empty f in
-        (omega (arith, l, length-drop e ps), omega (arith, n))
+    pub noted : true ≡ is_empty p → k < length xs → take (k + 1) (set xs k i) ++ empties_from (i + 1) (drop (i + 1) ps) ≡ take k xs ++ empties_from i (drop i ps)
+    noted e l =
+        let es = empties_from (i + 1) (drop (i + 1) ps) in
+        ap (λ zs. zs ++ es) (take_more_set xs k i l)
+        ∙ append_assoc (take k xs) (i ∷ []) es
+        ∙ ap (λ zs. take k xs ++ zs) (sym (here ∙ ap (λ b. cond b (i ∷ es) es) (sym e)))
 
-    -- no other is empty
-    pub no_more : place_of is_empty (take (length ps - e) (drop e ps)) ≡ None → length (items_of ps) + m ≡ length ps
-    no_more h =
-        let n : length (items_of ps) ≡ length (items_of (take e ps)) + length (drop e ps) =
-        ap (λ qs. length (items_of qs)) (sym (take-append-drop e ps))
-        ∙ sym (length_items (take e ps) (drop e ps))
-        ∙ ap (λ j. length (items_of (take e ps)) + j) (full_from (drop e ps) 0 (ap (place_of is_empty) (sym (take_rest ps e)) ∙ h)) in
-        omega (arith, n, length-drop e ps)
+    pub not_noted : false ≡ is_empty p → take k xs ++ empties_from (i + 1) (drop (i + 1) ps) ≡ take k xs ++ empties_from i (drop i ps)
+    not_noted e =
+        let es = empties_from (i + 1) (drop (i + 1) ps) in
+        ap (λ zs. take k xs ++ zs) (sym (here ∙ ap (λ b. cond b (i ∷ es) es) (sym e)))
 
-    -- so there is room for as many more items
-    pub room_left : length (items_of ps) + m ≤ length ps
-    room_left =
-        let n = length_items (take e ps) (drop e ps) ∙ ap (λ qs. length (items_of qs)) (take-append-drop e ps) in
-        omega (arith, n, no_more_items (drop e ps), length-drop e ps)
+  -- enough are noted
+  pub noted_enough : (xs es : List ℕ) (ps : List (MailPlace V)) (k n : ℕ) → k ≡ n → k ≤ length xs → take k xs ++ es ≡ empties_from 0 ps → (take k xs ≡ take n (empties_from 0 ps)) × (k ≡ min n (length (empties_from 0 ps)))
+  noted_enough xs es ps k n e l inv = (
+    sym (ap (take n) (sym inv) ∙ take_at (take k xs) es n (length-take-le k xs l ∙ e)),
+    omega (arith, ap length inv, length-append (take k xs) es, length-take-le k xs l),
+  )
 
-  -- what the places before this one have taken
-  module _ (item : MailPlace V) (names : List ℕ) (ps qs : List (MailPlace V)) (e : ℕ) (inside : e ≤ length ps) (room : length (items_of (take e ps)) + length names ≡ e) where
-    abbrev is : List (Item V)
-    is = items_of (take e ps)
+  -- all are noted
+  pub noted_all : (xs : List ℕ) (ps : List (MailPlace V)) (k i n : ℕ) → k ≤ n → k ≤ length xs → length ps ≤ i → take k xs ++ empties_from i (drop i ps) ≡ empties_from 0 ps → (take k xs ≡ take n (empties_from 0 ps)) × (k ≡ min n (length (empties_from 0 ps)))
+  noted_all xs ps k i n le l h inv =
+      let e : take k xs ≡ empties_from 0 ps = sym (append-nil (take k xs)) ∙ ap (λ qs. take k xs ++ empties_from i qs) (sym (drop_all i ps h)) ∙ inv in
+      let m : length (empties_from 0 ps) ≡ k = sym (ap length e) ∙ length-take-le k xs l in
+      (e ∙ sym (take_all n (empties_from 0 ps) (omega arith)), omega arith)
 
-    pub all_sent : IsPermutation (items_of qs) (dropping (λ _. false) is ++ sent (length (take e ps) - length (dropping (λ _. false) is)) item names) → IsPermutation (items_of (qs ++ drop e ps)) (items_of ps ++ items_of (map (addressed item) names))
-    all_sent s =
-        let l : length names ≤ length (take e ps) - length is = omega (arith, length-take-le e ps inside) in
-        same_bag refl (ap (λ zs. items_of zs ++ items_of (map (addressed item) names)) (sym (take-append-drop e ps)))
-        (part_filled (take e ps) qs (drop e ps) (items_of (map (addressed item) names))
-        (same_bag refl
-        (ap (λ bs. is ++ items_of (map (addressed item) bs)) (sym (take_all (length (take e ps) - length is) names l))
-        ∙ ap (λ js. js ++ sent (length (take e ps) - length js) item names) (sym (dropping_none is)))
-        s))
+  module _ (item : MailPlace V) where
+    -- one place more has its item
+    pub placed_more : (is names : List ℕ) (ps : List (MailPlace V)) (k i b : ℕ) → k < length is → k < length names → i ≡ get_or is k 0 → b ≡ get_or names k 0 → placed item (drop (k + 1) is) (drop (k + 1) names) (set ps i (addressed item b)) ≡ placed item (drop k is) (drop k names) ps
+    placed_more is names ps k i b h l e f =
+        ap₂ (λ j c. placed item (drop (k + 1) is) (drop (k + 1) names) (set ps j (addressed item c))) e f
+        ∙ sym (ap₂ (λ js cs. placed item js cs ps) (drop_more is k 0 h) (drop_more names k 0 l))
 
--- no item passes
-pub nothing_goes : {X : Type 0} (o : Option X) → holds_of (λ _. false) o ≡ false
-nothing_goes None = refl
-nothing_goes (Some x) = refl
+    pub placed_all : (is names : List ℕ) (ps : List (MailPlace V)) (k : ℕ) → length is ≤ k → ps ≡ placed item (drop k is) (drop k names) ps
+    placed_all is names ps k h = sym (ap (λ js. placed item js (drop k names) ps) (drop_all k is h))
+
+    nobody : (is : List ℕ) (ps : List (MailPlace V)) → placed item is [] ps ≡ ps
+    nobody [] ps = refl
+    nobody (i ∷ is) ps = refl
+
+    enough : (n : ℕ) (is names : List ℕ) (ps : List (MailPlace V)) → length names ≤ n → placed item (take n is) names ps ≡ placed item is names ps
+    enough n is [] ps h = nobody (take n is) ps ∙ sym (nobody is ps)
+    enough zero is (b ∷ bs) ps h = absurd (omega arith)
+    enough (suc n) [] (b ∷ bs) ps h = refl
+    enough (suc n) (i ∷ is) (b ∷ bs) ps h = enough n is bs (set ps i (addressed item b)) (omega arith)
+
+    nothing_sent : (ps : List (MailPlace V)) → refilled (λ p. p) item ps [] ≡ ps
+    nothing_sent [] = refl
+    nothing_sent (p ∷ ps) = ap (λ zs. p ∷ zs) (nothing_sent ps)
+
+    module _ (qs : List (MailPlace V)) (p : MailPlace V) (ps : List (MailPlace V)) (i b : ℕ) (bs : List ℕ) (l : length qs ≡ i) where
+      abbrev es : List ℕ
+      es = empties_from (i + 1) ps
+
+      abbrev fill_on : List ℕ → List (MailPlace V)
+      fill_on cs = refilled (λ p. p) item ps cs
+
+      by_place : ((q : MailPlace V) (cs : List ℕ) → placed item es cs ((qs ++ q ∷ []) ++ ps) ≡ (qs ++ q ∷ []) ++ fill_on cs) → placed item (empties_from i (p ∷ ps)) (b ∷ bs) (qs ++ p ∷ ps) ≡ qs ++ refilled (λ p. p) item (p ∷ ps) (b ∷ bs)
+      by_place on = by (is_empty p)
+        where
+          one_more : (q : MailPlace V) (cs : List ℕ) → placed item es cs (qs ++ q ∷ ps) ≡ qs ++ q ∷ fill_on cs
+          one_more q cs = ap (placed item es cs) (sym (append_assoc qs (q ∷ []) ps)) ∙ on q cs ∙ append_assoc qs (q ∷ []) (fill_on cs)
+
+          by : (t : Bool) → placed item (cond t (i ∷ es) es) (b ∷ bs) (qs ++ p ∷ ps) ≡ qs ++ cond t (addressed item b ∷ fill_on bs) (p ∷ fill_on (b ∷ bs))
+          by true = ap (placed item es bs) (set_at qs p ps (addressed item b) i l) ∙ one_more (addressed item b) bs
+          by false = one_more p (b ∷ bs)
+
+    by_places : (qs ps : List (MailPlace V)) (i : ℕ) (names : List ℕ) → length qs ≡ i → placed item (empties_from i ps) names (qs ++ ps) ≡ qs ++ refilled (λ p. p) item ps names
+    by_places qs [] i names l = refl
+    by_places qs (p ∷ ps) i [] l = nobody (empties_from i (p ∷ ps)) (qs ++ p ∷ ps) ∙ ap (λ zs. qs ++ zs) (sym (nothing_sent (p ∷ ps)))
+    by_places qs (p ∷ ps) i (b ∷ bs) l = by_place qs p ps i b bs l (λ q cs. by_places (qs ++ q ∷ []) ps (i + 1) cs (length_push qs q ∙ ap (λ n. n + 1) l))
+
+    -- the empty places that were found have taken their items
+    pub placed_bag : (n : ℕ) (names : List ℕ) (ps qs : List (MailPlace V)) → length names ≤ n → n ≤ length (empties_from 0 ps) → qs ≡ placed item (take n (empties_from 0 ps)) names ps → IsPermutation (items_of qs) (items_of ps ++ items_of (map (addressed item) names))
+    placed_bag n names ps qs h l e =
+        let z : length names ≤ length ps - length (items_of ps) = omega (arith, empty_or_full 0 ps) in
+        same_bag (ap items_of (e ∙ enough n (empties_from 0 ps) names ps h ∙ by_places [] ps 0 names refl))
+        (ap (λ bs. items_of ps ++ items_of (map (addressed item) bs)) (sym (take_all (length ps - length (items_of ps)) names z)))
+        (filled_bag item ps names)

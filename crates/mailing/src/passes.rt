@@ -1,18 +1,18 @@
 // What happens to the mail in one pass over its places. New items lie in any places that are empty.
-ghost use Rattle.std.specs.Prelude.{◌≡◌, ℕ, ◌+◌, ◌-◌, ◌<◌, ◌≤◌, Bool, true, false, [], ◌++◌, map, length, take, nat_le, is_ok, is_err, Some, None, Ok, Err};
+ghost use Rattle.std.specs.Prelude.{◌≡◌, ℕ, ◌+◌, ◌-◌, ◌<◌, ◌≤◌, true, [], ◌++◌, map, length, take, min, nat_le, is_ok, is_err, Some, None, Ok, Err};
 ghost use Rattle.protocol.specs.declared.refusal.Refusal.TheVariants.{NoRoom};
-ghost use Rattle.protocol.specs.Heads.{holds_of};
-ghost use Rattle.protocol.specs.Items.{Item, is_reply_to, goes_with, dropping};
+ghost use Rattle.protocol.specs.Items.{is_reply_to, goes_with, dropping};
 ghost use Rattle.records.specs.NameLists.{names_of};
 ghost use Rattle.records.specs.declared.names.Names.{Names};
-ghost use Rattle.tables.specs.MailPlaces.{item_of, items_of, is_empty, addressed};
-ghost use Rattle.tables.specs.FirstPlaces.{place_of};
+ghost use Rattle.tables.specs.MailPlaces.{items_of, addressed};
 ghost use Rattle.tables.specs.Passes.{sent as sent_items, names_but};
+ghost use Rattle.mailing.specs.EmptyPlaces.{empties_from};
 ghost use Rattle.std.specs.List.Sorted.{IsPermutation};
 
 use mail::item::{emptied, goes_with, is_empty, is_reply_to, to};
 use protocol::refusal::Refusal;
-use records::names::Names;
+use records::names::{MOST_NAMES, Names};
+use records::places::put;
 use tables::head::Head;
 use tables::mail::MailPlace;
 
@@ -50,8 +50,14 @@ pub fn broadcast<V: Copy>(
 {
     let receivers = names_of_others(heads, but).ok_or(Refusal::NoRoom)?;
     let names = receivers.as_slice();
-    let end = room_for(mail, names.len()).ok_or(Refusal::NoRoom)?;
-    refill(&mut mail[..end], |_| false, item, names);
+    let mut places = [0; MOST_NAMES];
+    if note_empty_places(mail, names.len(), &mut places) < names.len() {
+        return Err(Refusal::NoRoom);
+    }
+    // by index, since no contract says what a `zip` of places and names goes through
+    for (k, name) in names.iter().enumerate() {
+        put(mail, places[k], to(item, *name));
+    }
     Ok(())
 }
 
@@ -72,46 +78,37 @@ fn names_of_others<V: Copy>(heads: &[Head<V>], but: usize) -> Option<Names>
     Some(names)
 }
 
-// How many places from the first on have so many empty ones, where there are so many.
-fn room_for<V: Copy>(mail: &[MailPlace<V>], wanted: usize) -> Option<usize>
-    ensures room { (n : ℕ) → result ≡ Some n → (n ≤ length mail.now) × (length (items_of (take n mail.now)) + wanted ≡ n) }
-    ensures full { result ≡ None → length mail.now < length (items_of mail.now) + wanted }
+// Notes the first empty places, as many as are wanted, and answers how many they are.
+// Places are noted by their index in an array with a count, since there is no heap, and an Option of such an array takes half as much time again in a small site.
+fn note_empty_places<V: Copy>(
+    mail: &[MailPlace<V>],
+    wanted: usize,
+    places: &mut [usize; MOST_NAMES],
+) -> usize
+    requires { wanted ≤ 64 }
+    ensures places { take result places.new ≡ take wanted (empties_from 0 mail.now) }
+    ensures count { result ≡ min wanted (length (empties_from 0 mail.now)) }
 {
-    let mut end = 0;
-    for _ in 0..wanted {
-        end += first_empty(&mail[end..])? + 1;
+    let mut count = 0;
+    for (i, p) in mail.iter().enumerate() {
+        if count >= wanted {
+            return count;
+        }
+        if is_empty(*p) {
+            places[count] = i;
+            count += 1;
+        }
     }
-    Some(end)
-}
-
-// The first place that is empty.
-fn first_empty<V: Copy>(mail: &[MailPlace<V>]) -> Option<usize>
-    ensures place { result ≡ place_of is_empty mail.now }
-    ensures within { (i : ℕ) → result ≡ Some i → i < length mail.now }
-{
-    mail.iter().position(|p| is_empty(*p))
+    count
 }
 
 // Drops the REPLY items to this name, and sends the item to each of the names, as far as there are empty places.
 pub fn answer<V: Copy>(mail: &mut [MailPlace<V>], name: u32, item: MailPlace<V>, names: &[u32])
     ensures { IsPermutation (items_of mail.new) (dropping (is_reply_to name) (items_of mail.old) ++ sent_items (length mail.old - length (dropping (is_reply_to name) (items_of mail.old))) item names.now) }
 {
-    refill(mail, |p| is_reply_to(p, name), item, names);
-}
-
-// Drops the items that go, and sends the item to each of the names, as far as there are empty places.
-fn refill<V: Copy, F: Fn(MailPlace<V>) -> bool>(
-    mail: &mut [MailPlace<V>],
-    goes: F,
-    item: MailPlace<V>,
-    names: &[u32],
-)
-    requires { F.IsAlwaysCallable goes }
-    ensures { (t : Item V → Bool) → ((p : MailPlace V) (b : Bool) → F.post goes p b → b ≡ holds_of t (item_of p)) → IsPermutation (items_of mail.new) (dropping t (items_of mail.old) ++ sent_items (length mail.old - length (dropping t (items_of mail.old))) item names.now) }
-{
     let mut left = names.iter();
     for place in mail.iter_mut() {
-        if goes(*place) {
+        if is_reply_to(*place, name) {
             *place = emptied(*place);
         }
         if is_empty(*place)

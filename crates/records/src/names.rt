@@ -1,10 +1,19 @@
 // Up to 64 names.
-ghost use Rattle.std.specs.Prelude.{◌≡◌, ℕ, ◌+◌, ◌^◌, ◌<◌, ◌≤◌, Bool, true, false, [], ◌∷◌, ◌++◌, length, is_some, filter, nat_eq, nat_le};
+ghost use Rattle.std.specs.Prelude.{◌≡◌, ℕ, ◌+◌, ◌<◌, ◌≤◌, Bool, true, false, [], ◌∷◌, ◌++◌, length, is_some, filter, nat_eq, nat_le};
 ghost use Rattle.protocol.specs.Places.{first};
 ghost use Rattle.records.specs.NameLists.{names_of, joined, has_room};
 
 // How many names there can be.
 pub const MOST_NAMES: usize = 64;
+
+// A test of names.
+pub trait NameTest {
+    // Whether a name passes.
+    ghost passing: { Self → ℕ → Bool };
+
+    fn passes(&self, name: u32) -> bool
+        ensures { result ≡ passing self.now name };
+}
 
 // The first `count` of the list, in order of arrival; a count above 64 is 64. There is no heap, and places are plain records of one size, so it is an array with its length.
 #[derive(Clone, Copy, PartialEq, Eq, Debug)]
@@ -76,14 +85,13 @@ impl Names {
         more
     }
 
-    // The names that pass, in their order. It calls a closure, so it asks that this may be called.
-    pub fn filtered<F: Fn(u32) -> bool>(self, passes: F) -> Names
-        requires { F.IsAlwaysCallable passes }
-        ensures { (p : ℕ → Bool) → ((x : ℕ) (b : Bool) → x < 2 ^ 32 → F.post passes x b → b ≡ p x) → names_of result ≡ filter p (names_of self) }
+    // The names that pass, in their order.
+    pub fn filtered<T: NameTest>(self, test: &T) -> Names
+        ensures { names_of result ≡ filter (T.NameTest.passing test.now) (names_of self) }
     {
         let mut passed = self.cleared();
         for x in self.as_slice() {
-            if passes(*x) {
+            if test.passes(*x) {
                 passed.push(*x);
             }
         }

@@ -1,6 +1,5 @@
--- What the site's own record tells of a write, and what a search tells.
-use Rattle.std.proofs.Common.{◌≡◌, ℕ, ◌≤◌, Bool, false, List, length, is_some, Some, None, Ok, Err, Option, Result, refl, ap, ◌∙◌, subst, arith}
-use Rattle.std.specs.Option.{ok_or}
+-- What the site's own record tells of a write.
+use Rattle.std.proofs.Common.{◌≡◌, ℕ, ◌≤◌, Bool, false, List, length, is_some, Some, None, Option, Result, refl, ◌∙◌, subst, arith}
 use Rattle.protocol.specs.declared.refusal.Refusal.{Refusal}
 use Rattle.protocol.specs.declared.refusal.Refusal.TheVariants.{ForeignTables}
 use Rattle.protocol.specs.Sites.{foreign}
@@ -31,13 +30,3 @@ module _ {V : Type 0} (s : Site) where
 module _ {V : Type 0} (s : Site) (hs : List (Head V)) (ms : List (MailPlace V)) where
   pub own_tables : tables_refusal s (length hs) (length ms) ≡ None → foreign (lent (site_of s) hs ms no_log) ≡ false
   own_tables e = foreign_by (site_of s) hs ms no_log (not_refused _ ForeignTables None e)
-
--- what a search has found, or why it has found nothing
-module _ {X : Type 0} {r : Result X Refusal} where
-  pub ok_found : {x : X} (o : Option X) (e : Refusal) → r ≡ Ok x → r ≡ ok_or o e → o ≡ Some x
-  ok_found None e p q = let z : ◌≡◌ {A = ℕ} 0 1 = cc in absurd (omega arith)
-  ok_found {x} (Some y) e p q = let z : y ≡ x = cc in ap Some z
-
-  pub ok_missing : {why : Refusal} (o : Option X) (e : Refusal) → r ≡ Err why → r ≡ ok_or o e → (o ≡ None) × (why ≡ e)
-  ok_missing None e p q = (refl, cc)
-  ok_missing (Some y) e p q = let z : ◌≡◌ {A = ℕ} 0 1 = cc in absurd (omega arith)

@@ -91,11 +91,14 @@ fn run_site(
         sent: 0,
         copy: NO_COPY,
     };
-    let mut heads = vec![in rt.alloc(); head; size]?;
-    let mut mail = vec![in rt.alloc(); place; MAIL_PLACES.min(size * size)]?;
+    // arrays, since they need no memory that may be wanting
+    let mut head_places = [head; HEAD_PLACES];
+    let mut mail_places = [place; MAIL_PLACES];
+    let heads = &mut head_places[..size];
+    let mail = &mut mail_places[..MAIL_PLACES.min(size * size)];
     let made = make(
-        &mut heads,
-        &mut mail,
+        heads,
+        mail,
         log,
         opening.delay,
         opening.swap_limit,
@@ -114,12 +117,12 @@ fn run_site(
     shift.run(rt, calls)
 }
 
-// A site with its tables and its log.
+// A site with its tables and its log, which are lent to it.
 #[derive(Drop)]
 struct Shift<'a, 'b> {
     site: Site,
-    heads: Vec<Head<Plan>>,
-    mail: Vec<MailPlace<Plan>>,
+    heads: &'a mut [Head<Plan>],
+    mail: &'a mut [MailPlace<Plan>],
     log: &'a mut WordLog<'b, Plan>,
 }
 
@@ -127,13 +130,7 @@ impl Shift<'_, '_> {
     // Performs the calls up to the end or the first bad word, which the script then tells again.
     fn run(&mut self, rt: &HostRuntime, mut calls: Script) -> anyhow::Result<()> {
         while let Ok(Some(call)) = calls.next() {
-            let answer = perform(
-                &mut self.site,
-                &mut self.heads,
-                &mut self.mail,
-                self.log,
-                &call,
-            );
+            let answer = perform(&mut self.site, self.heads, self.mail, self.log, &call);
             rt.println(call_line(rt.alloc(), &call, &answer)?)?;
         }
         if let Err(bad) = calls.next() {

@@ -2,8 +2,7 @@
 use Rattle.std.proofs.Common.{◌≡◌, ℕ, zero, suc, ◌+◌, ◌-◌, Bool, true, false, cond, not, List, [], ◌∷◌, ◌++◌, map, length, is_some, Some, None, Option, sym, refl, ap, ◌∙◌, subst, arith}
 use Rattle.std.specs.List.Sorted.{IsPermutation}
 use Rattle.std.proofs.lemmas.Bool.{cond-true, cond-false}
-use Rattle.std.proofs.lemmas.List.{append_assoc}
-use Rattle.std.proofs.lemmas.List.Sorted.{IsPermutation-refl, IsPermutation-cons, IsPermutation-trans, IsPermutation-sym, IsPermutation-middle, IsPermutation-append_left, IsPermutation-append_right, IsPermutation-append_comm}
+use Rattle.std.proofs.lemmas.List.Sorted.{IsPermutation-refl, IsPermutation-cons, IsPermutation-trans, IsPermutation-sym, IsPermutation-middle}
 use Rattle.protocol.specs.Heads.{holds_of}
 use Rattle.protocol.specs.Items.{Item, dropping}
 use Rattle.tables.specs.declared.mail.MailPlace.{MailPlace}
@@ -143,19 +142,15 @@ module _ {V : Type 0} where
   dropping_none [] = refl
   dropping_none (x ∷ is) = ap (λ zs. x ∷ zs) (dropping_none is)
 
-  pub items_append : (ps qs : List (MailPlace V)) → items_of (ps ++ qs) ≡ items_of ps ++ items_of qs
-  items_append [] qs = refl
-  items_append (p ∷ ps) qs = ap (with_item (item_of p)) (items_append ps qs) ∙ sym (with_append (item_of p) (items_of ps) (items_of qs))
+  kept_item : (o : Option (Item V)) → o ≡ left_of (λ _. false) o
+  kept_item None = refl
+  kept_item (Some x) = refl
 
-  -- items came into a part of the mail
-  pub part_filled : (xs ys rest : List (MailPlace V)) (is : List (Item V)) → IsPermutation (items_of ys) (items_of xs ++ is) → IsPermutation (items_of (ys ++ rest)) (items_of (xs ++ rest) ++ is)
-  part_filled xs ys rest is s =
-      let qs = items_of xs in
-      let rs = items_of rest in
-      same_bag (items_append ys rest) (ap (λ zs. zs ++ is) (items_append xs rest) ∙ append_assoc qs rs is)
-      (IsPermutation-trans (items_of ys ++ rs) ((qs ++ is) ++ rs) (qs ++ (rs ++ is))
-      (IsPermutation-append_left rs (items_of ys) (qs ++ is) s)
-      (same_bag (append_assoc qs is rs) refl (IsPermutation-append_right qs (is ++ rs) (rs ++ is) (IsPermutation-append_comm is rs))))
+  -- nothing is cleared
+  pub filled_bag : (item : MailPlace V) (ps : List (MailPlace V)) (names : List ℕ) → IsPermutation (items_of (refilled (λ p. p) item ps names)) (items_of ps ++ sent (length ps - length (items_of ps)) item names)
+  filled_bag item ps names =
+      same_bag refl (ap (λ is. is ++ sent (length ps - length is) item names) (sym (dropping_none (items_of ps))))
+      (refilled_bag (λ p. p) (λ _. false) (λ p. kept_item (item_of p)) item ps names)
 
   -- every place is empty
   pub no_items : (ps : List (MailPlace V)) → items_of (map without_item ps) ≡ []

@@ -6,7 +6,7 @@ ghost use Rattle.tables.specs.HeadPlaces.{held_of, heads_of};
 
 use heads::searches::has_name;
 use protocol::state::HeadState;
-use records::names::Names;
+use records::names::{NameTest, Names};
 use tables::head::Head;
 
 // Whether a head with this name is present and inquiring; the first such head counts.
@@ -33,5 +33,19 @@ pub fn inquires(state: HeadState) -> bool
 pub fn inquirers<V: Copy>(h: Head<V>, heads: &[Head<V>]) -> Names
     ensures { names_of result ≡ filter (λ x. inquiring_named x (heads_of heads.now)) (held_of h) }
 {
-    h.held.filtered(|x| is_inquiring(heads, x))
+    h.held.filtered(&Inquiring { heads })
+}
+
+// The names whose heads are present and inquiring.
+#[derive(Drop)]
+struct Inquiring<'a, V> {
+    heads: &'a [Head<V>],
+}
+
+impl<V: Copy> NameTest for Inquiring<'_, V> {
+    ghost passing = { λ inquiring name. inquiring_named name (heads_of inquiring.heads.now) };
+
+    fn passes(&self, name: u32) -> bool {
+        is_inquiring(self.heads, name)
+    }
 }

@@ -14,6 +14,7 @@ use mail::item::item_from;
 use mailing::passes::{answer, broadcast};
 use protocol::kind::MailKind;
 use records::clock::Clock;
+use records::places::put;
 use tables::head::Head;
 use tables::mail::MailPlace;
 use tables::turn::Turn;
@@ -39,7 +40,7 @@ fn take_turn<V: Copy>(heads: &mut [Head<V>], mail: &mut [MailPlace<V>], i: usize
 {
     let h = heads[i];
     let turn = turn_at(&h, clock);
-    heads[i] = turned(h, turn, clock.time);
+    put(heads, i, turned(h, turn, clock.time));
     send_in_turn(heads, mail, i, h, turn, clock.time);
 }
 
@@ -74,7 +75,7 @@ fn send_in_turn<V: Copy>(
 fn inquire<V: Copy>(heads: &[Head<V>], mail: &mut [MailPlace<V>], i: usize, h: Head<V>, time: u32)
     ensures { (items : List (Item V)) → length heads.now ≤ 64 → put (length mail.old) (items_of mail.old) (to_each (λ b. inquiry h.name b time) (remove (heads_of heads.now) i)) ≡ Some items → IsPermutation (items_of mail.new) items }
 {
-    let item = item_from(MailKind::Inquiry, h.name, h.copy, time);
+    let item = item_from(MailKind::Inquiry, h.name, h.copy.cleared(), time);
     // the mail has room, or the tick would have been refused
     let _ = broadcast(mail, item, heads, i);
 }

@@ -43,8 +43,10 @@ impl Site {
         ensures { FindsHead self heads.now mail.now name result }
     {
         self.check_tables(heads.len(), mail.len())?;
-        let i = find(heads, name).ok_or(Refusal::NoSuchHead)?;
-        Ok((i, heads[i]))
+        match find(heads, name) {
+            None => Err(Refusal::NoSuchHead),
+            Some(i) => Ok((i, heads[i])),
+        }
     }
 
     // The place of the receiver and the head, and the place of the item and what lies there; or why there are none.
@@ -57,7 +59,9 @@ impl Site {
         ensures { FindsItem self heads.now mail.now label.kind label.sender label.receiver result }
     {
         self.check_tables(heads.len(), mail.len())?;
-        let (i, k) = find_delivery(heads, mail, label).ok_or(Refusal::NoSuchItem)?;
-        Ok((i, heads[i], k, mail[k]))
+        match find_delivery(heads, mail, label) {
+            None => Err(Refusal::NoSuchItem),
+            Some((i, k)) => Ok((i, heads[i], k, mail[k])),
+        }
     }
 }

@@ -11,12 +11,14 @@ use crate::site::Site;
 use heads::changes::newcomer;
 use heads::places::forget_everywhere;
 use kinds::value::Value;
-use logs::entry::LAST_NUMBER;
 use mailing::passes::drop_mail_with;
 use protocol::refusal::Refusal;
 use records::places::put;
 use tables::head::Head;
 use tables::mail::MailPlace;
+
+// The highest name.
+const LAST_NAME: u32 = 268_435_455;
 
 impl Site {
     // Swaps the head with this name for a newcomer, and answers its name.
@@ -49,7 +51,7 @@ impl Site {
         if self.swap_limit <= self.swaps {
             return Err(Refusal::SwapLimit);
         }
-        if LAST_NUMBER < self.next_name {
+        if LAST_NAME < self.next_name {
             return Err(Refusal::NamesUsedUp);
         }
         let mut after = self;

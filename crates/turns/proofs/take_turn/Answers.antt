@@ -12,7 +12,8 @@ returns-clause-heads g c h here =
     let i = c.args.i in
     let x = c.index-heads-i.result in
     let same : x ≡ h = sym (here ∙ get_or_default hs i h x c.requires.inside ∙ sym c.index-heads-i.is) in
-    map-set head_of hs i c.turned.result
+    ap heads_of c.put.ensures
+    ∙ map-set head_of hs i c.turned.result
     ∙ ap (set (heads_of hs) i) (c.turned.ensures ∙ ap (λ u. turned_by c.args.clock.time u (head_of x)) c.turn_at-turn.ensures ∙ ap (λ k. turned c.args.clock.delay c.args.clock.time (head_of k)) same)
 
 pub returns-clause-mail : goal.returns-clause-mail
@@ -25,8 +26,8 @@ returns-clause-mail g c h items here few e =
     let places = length c.args.mail.now in
     let time = c.args.clock.time in
     let same : x ≡ h = sym (here ∙ get_or_default c.args.heads.now i h x c.requires.inside ∙ sym c.index-heads-i.is) in
-    let left : heads_of (set c.args.heads.now i c.turned.result) ≡ set hs i y = map-set head_of c.args.heads.now i c.turned.result in
-    c.send_in_turn.ensures items (omega (arith, few, length-set c.args.heads.now i c.turned.result))
+    let left : heads_of c.put.new.places ≡ set hs i y = ap heads_of c.put.ensures ∙ map-set head_of c.args.heads.now i c.turned.result in
+    c.send_in_turn.ensures items (omega (arith, few, ap length c.put.ensures, length-set c.args.heads.now i c.turned.result))
     (ap (λ ks. turn_mail places time (take i ks) (head_of x) (drop (suc i) ks) is (turn_of c.turn_at-turn.result)) left
     ∙ ap (λ bs. turn_mail places time bs (head_of x) (drop (suc i) (set hs i y)) is (turn_of c.turn_at-turn.result)) (take-set-le i hs i y (omega arith))
     ∙ ap (λ bs. turn_mail places time (take i hs) (head_of x) bs is (turn_of c.turn_at-turn.result)) (drop-set-lt (suc i) hs i y (omega arith))
